@@ -1,0 +1,4 @@
+pub mod Bytes
+pub mod Calendar
+pub mod Faults
+pub mod RuleForms
