@@ -1,0 +1,4 @@
+pub mod Sheets
+pub mod Sums
+pub mod Positions
+pub mod Amounts

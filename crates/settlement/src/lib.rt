@@ -1,0 +1,2 @@
+//! Positions, penalties and balance amounts out of the sheet.
+pub mod phase;
