@@ -1,14 +1,15 @@
 -- Checks one after another: a loop's start, step and exit, and the theorem that the earliest fault answers.
 use mathlib.Core.Path.{_≡_, refl, sym, subst}
 use mathlib.Core.Logic.{_⊎_, inl, inr}
+use mathlib.Core.Bool.{Bool, true, false, not}
 use Prim.Native.Nat.{ℕ, zero, suc, _+_, _<_, _≤_}
 use native.Mathlib.Numerals.{add-one}
 use native.Mathlib.Omega.{arith}
-use Rattle.std.proofs.shelf.Tests.{cases-order}
+use Rattle.std.proofs.shelf.Tests.{cases-order, not-false}
 use Rattle.std.specs.Results.{Cases}
 use Rattle.std.specs.declared.result.Result.the-variants.{Ok, Err}
 use Rattle.forms.specs.declared.fault.Fault.{Fault}
-use Rattle.forms.specs.Checks.{Verdict, andThen, each-of, Earliest, EarliestAnswers}
+use Rattle.forms.specs.Checks.{Verdict, andThen, refuse-if, each-of, Earliest, EarliestAnswers}
 
 pub each-none : (f : ℕ → Verdict) → each-of f 0 ≡ Ok tt
 unfolding each-of
@@ -80,3 +81,11 @@ andThen-left (Err x) q e = e
 pub andThen-right : (r q : Verdict) → andThen r q ≡ Ok tt → q ≡ Ok tt
 andThen-right (Ok _) q e = e
 andThen-right (Err x) q e = absurd (let z : _≡_ {A = ℕ} 0 1 = cc in omega arith)
+
+-- a check that passed had its test unmet
+pub unrefused : (b : Bool) (e : Fault) → refuse-if b e ≡ Ok tt → b ≡ false
+unrefused true e h = absurd (let z : _≡_ {A = ℕ} 0 1 = cc in omega arith)
+unrefused false e h = refl
+
+pub allowed : (b : Bool) (e : Fault) → refuse-if (not b) e ≡ Ok tt → b ≡ true
+allowed b e h = not-false b (unrefused (not b) e h)

@@ -15,9 +15,12 @@ use Rattle.settlement.specs.Sums.{sumℤ}
 abbrev pub is-marked : ℕ → Bool
 is-marked E = ltb 0 E
 
+abbrev pub no-rates : RateFigures
+no-rates = record { fee = 0; rate = 0 }
+
 -- the tariff row of a stage: rows count from 0, and a higher stage uses the last row
 abbrev pub row-for : List RateFigures → ℕ → RateFigures
-row-for tariff stage = getD tariff (min stage (length tariff - 1)) (record { fee = 0; rate = 0 })
+row-for tariff stage = getD tariff (min stage (length tariff - 1)) no-rates
 
 -- a marked day costs the fee and the rate on the energy, rounded down; an unmarked day costs nothing
 abbrev pub penalty : RateFigures → ℕ → ℕ

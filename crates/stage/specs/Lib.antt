@@ -1,0 +1,4 @@
+pub mod Asked
+pub mod BenchStage
+pub mod Marked
+pub mod Rules
