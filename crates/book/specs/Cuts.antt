@@ -11,7 +11,7 @@ use Rattle.settlement.specs.declared.phase.Phase.{Phase}
 use Rattle.settlement.specs.declared.phase.Phase.the-variants.{Ahead, Near, After}
 use Rattle.settlement.specs.Positions.{day-excess}
 use Rattle.settlement.specs.Amounts.{is-marked, row-for, penalty}
-use Rattle.book.specs.Sheets.{sheet-fits}
+use Rattle.book.specs.Queries.{day-check}
 use Rattle.book.specs.States.{State, GroupState, size, figures, kept, day-quarters, year-over, statements}
 
 abbrev pub is-after : Phase → Bool
@@ -54,8 +54,7 @@ next-phase m s sheet After = s
 
 abbrev pub advance-check : State → List ℕ → Verdict
 advance-check s sheet =
-    andThen (refuse-if (year-over s || is-after (s .phase)) WrongPhase)
-    (refuse-if (not (sheet-fits (size s) sheet)) WrongBuffer)
+    andThen (refuse-if (is-after (s .phase)) WrongPhase) (day-check s sheet)
 
 -- the state after checks that passed, or the one before
 abbrev pub state-if : Verdict → State → State → State

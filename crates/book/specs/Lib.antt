@@ -1,5 +1,7 @@
+pub mod Closes
 pub mod Cuts
 pub mod Kept
+pub mod Messages
 pub mod Opens
 pub mod Queries
 pub mod Rows

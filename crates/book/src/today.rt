@@ -3,7 +3,7 @@ ghost use mathlib.Core.Path.{_≡_};
 ghost use Prim.Native.Nat.{_*_, _<_, _≤_};
 ghost use lib.ListN.{length};
 ghost use Rattle.forms.specs.Figures.{figuresOf};
-ghost use Rattle.settlement.specs.Sheets.{SheetOf, sheet-size};
+ghost use Rattle.settlement.specs.Sheets.{SheetOf, sheet-size, words-per-slot};
 ghost use Rattle.book.specs.Kept.{cut-offs, days-in, penalties-in, balance-in, most-penalty, most-balance};
 ghost use Rattle.book.specs.Queries.{day-check};
 ghost use Rattle.book.specs.States.{stateOf, size, figures, kept, accountOf, today, day-quarters, year-over};
@@ -36,7 +36,8 @@ impl Ledger {
 
     /// How many quarter hours the current day has.
     pub(crate) fn quarters(&self) -> u8
-        ensures { λ r. ⌜ r ≡ day-quarters (stateOf (now (self .entry))) ⌝ }
+        ensures value { λ r. ⌜ r ≡ day-quarters (stateOf (now (self .entry))) ⌝ }
+        ensures few { λ r. ⌜ r ≤ words-per-slot ⌝ }
     {
         quarters_of(self.day())
     }

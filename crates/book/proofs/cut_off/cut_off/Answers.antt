@@ -18,9 +18,8 @@ use Rattle.settlement.specs.Positions.{day-excess}
 use Rattle.settlement.specs.Sheets.{on-sheet}
 use Rattle.book.specs.Cuts.{charged, excess-today, past-cut-off, cut-off}
 use Rattle.book.specs.Kept.{cut-offs, days-in, penalties-in, balance-in, most-penalty, most-balance}
-use Rattle.book.specs.States.{State, stateOf, size, today, accountOf, own-accounts}
+use Rattle.book.specs.States.{State, stateOf, size, accountOf, own-accounts}
 use Rattle.book.proofs.Accounts.{bounded-set, bounded-more}
-use Rattle.book.proofs.Days.{quarters-fit}
 use Rattle.book.proofs.cut_off.cut_off.Needs as need
 
 pub day-excess-energy-requires : need.day-excess-energy-requires
@@ -28,7 +27,7 @@ day-excess-energy-requires g c κs = record {
   sheet = c .on-day .ensures .whole;
   within = (
     omega (arith, c .on-day .ensures .groups, c .groups-a-end .ensures .value),
-    omega (arith, c .quarters-quarters .ensures, quarters-fit (today (stateOf (c .args .ledger .now)))),
+    c .quarters-quarters .ensures .few,
   );
 }
 
@@ -40,7 +39,7 @@ charge-requires g c κs =
         omega (arith, length-marks (c .account .result .marks), c .account .ensures .days, near, c .pre .near .1),
         omega (arith, c .account .ensures .penalties, near, c .pre .near .1),
       );
-      energy = omega (arith, c .day-excess-energy .ensures .bound, c .quarters-quarters .ensures, quarters-fit (today (stateOf (c .args .ledger .now))));
+      energy = omega (arith, c .day-excess-energy .ensures .bound, c .quarters-quarters .ensures .few);
     }
 
 pub loop-a-again : need.loop-a-again
@@ -59,7 +58,7 @@ loop-a-again g c =
     let sent = c .on-day .ensures .sent in
     let words = c .on-day .ensures .words in
     let figures = c .figures .ensures in
-    let quarters = c .quarters-quarters .ensures in
+    let quarters = c .quarters-quarters .ensures .value in
     let energy : c .day-excess-energy .result ≡ excess-today s sheet a =
     c .day-excess-energy .ensures .value
     ∙ (λ j. day-excess (on-sheet (groups j) (sent j) (words j)) (figures j) (groups j) a (quarters j)) in

@@ -1,0 +1,136 @@
+-- What submit does.
+use mathlib.Core.Path.{_≡_}
+use mathlib.Core.Bool.{Bool, true, false, cond, not, _&&_, _||_}
+use mathlib.Core.List.{List, map}
+use Prim.Native.Nat.{ℕ, zero, suc, _+_, _-_, _*_, _/_, _%_}
+use lib.Dec.{leb, ltb, eqb}
+use lib.ListN.{length, getD, set}
+use Rattle.std.specs.Iters.{counting}
+use Rattle.std.specs.Options.{mapped, isSome}
+use Rattle.std.specs.declared.option.Option.{Option}
+use Rattle.std.specs.declared.option.Option.the-variants.{Some, None}
+use Rattle.std.specs.declared.result.Result.{Result}
+use Rattle.std.specs.declared.result.Result.the-variants.{Ok, Err}
+use Rattle.forms.specs.declared.fault.Fault.{Fault}
+use Rattle.forms.specs.declared.fault.Fault.the-variants.{WrongGroup, WrongDay, WrongVersion, MissingSeries, GrowingPosition}
+use Rattle.forms.specs.Checks.{Verdict, andThen, refuse-if, each-of}
+use Rattle.forms.specs.Slots.{Slot, out-to, in-from, cons, prod, pump}
+use Rattle.message.specs.Form.{headerOf, said}
+use Rattle.message.specs.Heads.{heads-check}
+use Rattle.message.specs.Values.{values-check}
+use Rattle.message.specs.Places.{first-of, sent-in, stated}
+use Rattle.settlement.specs.declared.phase.Phase.{Phase}
+use Rattle.settlement.specs.declared.phase.Phase.the-variants.{Ahead, Near, After}
+use Rattle.settlement.specs.Positions.{stated-open, excess, as-far-out}
+use Rattle.settlement.specs.Sheets.{Statements, slots, words-per-slot}
+use Rattle.book.specs.Cuts.{is-after, state-if, sheet-if}
+use Rattle.book.specs.Queries.{one-of, answer-if, day-check}
+use Rattle.book.specs.States.{State, GroupState, size, figures, kept, today, day-quarters, statements}
+
+-- how many of the numbers below n pass a test
+unfoldable pub count-where : (ℕ → Bool) → ℕ → ℕ
+count-where p zero = 0
+count-where p (suc n) = count-where p n + cond (p n) 1 0
+
+-- the slot of a number among a group's slots
+abbrev pub slot-at : ℕ → ℕ → Slot
+slot-at g k = cond (ltb k g) (out-to k) (cond (ltb k (2 * g)) (in-from (k - g)) (cond (eqb k (2 * g)) cons (cond (eqb k (2 * g + 1)) prod pump)))
+
+-- a message by itself: what the group that sends it says, and zero of every other
+abbrev pub by-message : ℕ → ℕ → List ℕ → Statements
+by-message own q form a slot t = cond (eqb a own) (stated q form slot t) 0
+
+-- 11: a series accepted today is left out, or a metered group lacks a forecast
+abbrev pub left-out : State → ℕ → List ℕ → ℕ → Bool
+left-out s own form k = getD (s .sent) (own * slots (size s) + k) false && not (sent-in form (slot-at (size s) k))
+
+abbrev pub incomplete : State → ℕ → List ℕ → Bool
+incomplete s own form =
+    isSome (first-of (left-out s own form) (slots (size s)))
+    || (figures s own .metered && not (sent-in form cons && (sent-in form prod && sent-in form pump)))
+
+-- 15: after the cut-off a trading group's stated open position is beyond its limit, and farther out than the last accepted
+abbrev pub grows-at : State → List ℕ → ℕ → List ℕ → ℕ → Bool
+grows-at s sheet own form t =
+    ltb 0 (excess (figures s own) After (stated-open (by-message own (day-quarters s) form) (figures s own) (size s) t own))
+    && not (as-far-out (stated-open (by-message own (day-quarters s) form) (figures s own) (size s) t own) (stated-open (statements s sheet) (figures s own) (size s) t own))
+
+abbrev pub growth-check : State → List ℕ → ℕ → List ℕ → Verdict
+growth-check s sheet own form =
+    cond (is-after (s .phase) && not (figures s own .metered))
+    (each-of (λ t. refuse-if (grows-at s sheet own form t) (GrowingPosition (t + 1))) (day-quarters s))
+    (Ok tt)
+
+-- what was found, left aside
+abbrev pub passed : {A : Type 0} → Result A Fault → Verdict
+passed (Ok _) = Ok tt
+passed (Err e) = Err e
+
+-- the tests of a message, in rising number; own is the sender
+abbrev pub sender-check : State → List ℕ → Verdict
+sender-check s form =
+    andThen (refuse-if (not (one-of (size s) (said form .group))) WrongGroup)
+    (andThen (refuse-if (not (eqb (said form .day) (today s))) WrongDay)
+    (refuse-if (not (eqb (said form .version) (kept s (said form .group - 1) .version + 1))) WrongVersion))
+
+abbrev pub series-check : State → List ℕ → ℕ → List ℕ → Verdict
+series-check s sheet own form =
+    andThen (heads-check (size s) own form)
+    (andThen (refuse-if (incomplete s own form) MissingSeries)
+    (andThen (values-check (day-quarters s) (figures s own .metered) form)
+    (growth-check s sheet own form)))
+
+abbrev pub submit-check : State → List ℕ → List ℕ → Verdict
+submit-check s sheet form =
+    andThen (passed (headerOf (day-quarters s) form))
+    (andThen (day-check s sheet)
+    (andThen (sender-check s form) (series-check s sheet (said form .group - 1) form)))
+
+-- Its series stand in their slots: a place belongs to the sender, and the message has the series of that slot.
+abbrev pub owns : ℕ → ℕ → ℕ → Bool
+owns g own place = leb (own * slots g) place && ltb place ((own + 1) * slots g)
+
+abbrev pub own-slot : ℕ → ℕ → ℕ → Slot
+own-slot g own place = slot-at g (place - own * slots g)
+
+abbrev pub sent-after : ℕ → ℕ → List ℕ → List Bool → ℕ → Bool
+sent-after g own form sent place = cond (owns g own place) (sent-in form (own-slot g own place)) (getD sent place false)
+
+abbrev pub word-after : ℕ → ℕ → ℕ → List ℕ → List ℕ → ℕ → ℕ
+word-after g q own form sheet k =
+    cond (owns g own (k / words-per-slot) && (sent-in form (own-slot g own (k / words-per-slot)) && ltb (k % words-per-slot) q))
+    (stated q form (own-slot g own (k / words-per-slot)) (k % words-per-slot))
+    (getD sheet k 0)
+
+unfoldable pub sheet-after : ℕ → ℕ → ℕ → List ℕ → List ℕ → List ℕ
+sheet-after g q own form sheet = map (word-after g q own form sheet) (counting 0 (length sheet))
+
+abbrev pub with-version : GroupState → ℕ → GroupState
+with-version k version = record { version = version; marks = k .marks; due = k .due; penalties = k .penalties; balance = k .balance }
+
+unfoldable pub state-after : State → ℕ → List ℕ → State
+state-after s own form = record {
+  terms = s .terms;
+  closed = s .closed;
+  phase = s .phase;
+  sent = map (sent-after (size s) own form (s .sent)) (counting 0 (length (s .sent)));
+  groups = set (s .groups) own (with-version (kept s own) (said form .version));
+}
+
+-- a quarter hour whose stated open position is beyond the limit of the phase
+abbrev pub beyond-at : State → ℕ → List ℕ → ℕ → Bool
+beyond-at s own form t =
+    ltb 0 (excess (figures s own) (s .phase) (stated-open (by-message own (day-quarters s) form) (figures s own) (size s) t own))
+
+-- how many there are, and the first, from 1
+abbrev pub beyond-count : State → ℕ → List ℕ → ℕ × Option ℕ
+beyond-count s own form =
+    (count-where (beyond-at s own form) (day-quarters s), mapped (λ t. t + 1) (first-of (beyond-at s own form) (day-quarters s)))
+
+-- what submit answers, and the state and the sheet after it
+abbrev pub submitted : State → List ℕ → List ℕ → Result (ℕ × Option ℕ) Fault × State × List ℕ
+submitted s sheet form = (
+  answer-if (submit-check s sheet form) (beyond-count s (said form .group - 1) form),
+  state-if (submit-check s sheet form) (state-after s (said form .group - 1) form) s,
+  sheet-if (submit-check s sheet form) (sheet-after (size s) (day-quarters s) (said form .group - 1) form sheet) sheet,
+)
