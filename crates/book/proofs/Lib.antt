@@ -1,6 +1,8 @@
 pub mod Accounts
+pub mod ByMessage
 pub mod Closing
 pub mod Costs
+pub mod Counting
 pub mod Days
 pub mod Powers
 pub mod RowLists

@@ -2,7 +2,7 @@
 use mathlib.Core.Path.{_≡_}
 use mathlib.Core.Bool.{Bool, true, false, cond, not, _&&_, _||_}
 use mathlib.Core.List.{List, map}
-use Prim.Native.Nat.{ℕ, zero, suc, _+_, _-_, _*_, _/_, _%_}
+use Prim.Native.Nat.{ℕ, zero, suc, _+_, _-_, _*_, _/_, _%_, _<_}
 use lib.Dec.{leb, ltb, eqb}
 use lib.ListN.{length, getD, set}
 use Rattle.std.specs.Iters.{counting}
@@ -15,7 +15,7 @@ use Rattle.forms.specs.declared.fault.Fault.{Fault}
 use Rattle.forms.specs.declared.fault.Fault.the-variants.{WrongGroup, WrongDay, WrongVersion, MissingSeries, GrowingPosition}
 use Rattle.forms.specs.Checks.{Verdict, andThen, refuse-if, each-of}
 use Rattle.forms.specs.Slots.{Slot, out-to, in-from, cons, prod, pump}
-use Rattle.message.specs.Form.{headerOf, said}
+use Rattle.message.specs.Form.{Formed, headerOf, said}
 use Rattle.message.specs.Heads.{heads-check}
 use Rattle.message.specs.Values.{values-check}
 use Rattle.message.specs.Places.{first-of, sent-in, stated}
@@ -37,8 +37,14 @@ abbrev pub slot-at : ℕ → ℕ → Slot
 slot-at g k = cond (ltb k g) (out-to k) (cond (ltb k (2 * g)) (in-from (k - g)) (cond (eqb k (2 * g)) cons (cond (eqb k (2 * g + 1)) prod pump)))
 
 -- a message by itself: what the group that sends it says, and zero of every other
-abbrev pub by-message : ℕ → ℕ → List ℕ → Statements
+unfoldable pub by-message : ℕ → ℕ → List ℕ → Statements
 by-message own q form a slot t = cond (eqb a own) (stated q form slot t) 0
+
+-- a message of group own that is read for the current day, of the right length
+pub record Read (s : State) (own q : ℕ) (form : List ℕ) : Type 0 where
+  pub sender : own < size s
+  pub quarters : q ≡ day-quarters s
+  pub formed : Formed q form
 
 -- 11: a series accepted today is left out, or a metered group lacks a forecast
 abbrev pub left-out : State → ℕ → List ℕ → ℕ → Bool
@@ -50,16 +56,21 @@ incomplete s own form =
     || (figures s own .metered && not (sent-in form cons && (sent-in form prod && sent-in form pump)))
 
 -- 15: after the cut-off a trading group's stated open position is beyond its limit, and farther out than the last accepted
-abbrev pub grows-at : State → List ℕ → ℕ → List ℕ → ℕ → Bool
+unfoldable pub grows-at : State → List ℕ → ℕ → List ℕ → ℕ → Bool
 grows-at s sheet own form t =
     ltb 0 (excess (figures s own) After (stated-open (by-message own (day-quarters s) form) (figures s own) (size s) t own))
     && not (as-far-out (stated-open (by-message own (day-quarters s) form) (figures s own) (size s) t own) (stated-open (statements s sheet) (figures s own) (size s) t own))
 
+-- the first of n quarter hours at which it does is named
+abbrev pub grown-at : State → List ℕ → ℕ → List ℕ → ℕ → Verdict
+grown-at s sheet own form t = refuse-if (grows-at s sheet own form t) (GrowingPosition (t + 1))
+
+abbrev pub each-growth : State → List ℕ → ℕ → List ℕ → ℕ → Verdict
+each-growth s sheet own form n = each-of (grown-at s sheet own form) n
+
 abbrev pub growth-check : State → List ℕ → ℕ → List ℕ → Verdict
 growth-check s sheet own form =
-    cond (is-after (s .phase) && not (figures s own .metered))
-    (each-of (λ t. refuse-if (grows-at s sheet own form t) (GrowingPosition (t + 1))) (day-quarters s))
-    (Ok tt)
+    cond (is-after (s .phase) && not (figures s own .metered)) (each-growth s sheet own form (day-quarters s)) (Ok tt)
 
 -- what was found, left aside
 abbrev pub passed : {A : Type 0} → Result A Fault → Verdict
@@ -117,7 +128,11 @@ state-after s own form = record {
   groups = set (s .groups) own (with-version (kept s own) (said form .version));
 }
 
--- a quarter hour whose stated open position is beyond the limit of the phase
+-- a quarter hour whose stated open position, by the sheet, is beyond the limit of the phase
+unfoldable pub beyond-now : State → List ℕ → ℕ → ℕ → Bool
+beyond-now s sheet own t = ltb 0 (excess (figures s own) (s .phase) (stated-open (statements s sheet) (figures s own) (size s) t own))
+
+-- a quarter hour whose stated open position, by the message, is beyond the limit of the phase
 abbrev pub beyond-at : State → ℕ → List ℕ → ℕ → Bool
 beyond-at s own form t =
     ltb 0 (excess (figures s own) (s .phase) (stated-open (by-message own (day-quarters s) form) (figures s own) (size s) t own))

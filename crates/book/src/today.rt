@@ -1,9 +1,9 @@
 //! The current day of a ledger.
 ghost use mathlib.Core.Path.{_≡_};
-ghost use Prim.Native.Nat.{_*_, _<_, _≤_};
+ghost use Prim.Native.Nat.{_+_, _*_, _<_, _≤_};
 ghost use lib.ListN.{length};
 ghost use Rattle.forms.specs.Figures.{figuresOf};
-ghost use Rattle.settlement.specs.Sheets.{SheetOf, sheet-size, words-per-slot};
+ghost use Rattle.settlement.specs.Sheets.{SheetOf, slots, sheet-size, words-per-slot};
 ghost use Rattle.book.specs.Kept.{cut-offs, days-in, penalties-in, balance-in, most-penalty, most-balance};
 ghost use Rattle.book.specs.Queries.{day-check};
 ghost use Rattle.book.specs.States.{stateOf, size, figures, kept, accountOf, today, day-quarters, year-over};
@@ -15,6 +15,7 @@ use forms::calendar::quarters_of;
 use forms::fault::Fault;
 use forms::group::Group;
 use settlement::sheet::Sheet;
+use settlement::sheet::slots_per_group;
 
 impl Ledger {
     /// How many groups the book has.
@@ -58,6 +59,16 @@ impl Ledger {
         ensures whole { λ r. ⌜ SheetOf (r .groups) (now (r .sent)) (now (r .words)) ⌝ }
     {
         Sheet::new(self.groups(), &self.sent, sheet)
+    }
+
+    /// The place in the sheet of slot `number` of group `own`.
+    pub(crate) fn place(&self, own: usize, number: usize) -> usize
+        requires { ⌜ own < size (stateOf (now self)) ⌝ ∗ ⌜ number < slots (size (stateOf (now self))) ⌝ }
+        ensures value { λ r. ⌜ r ≡ own * slots (size (stateOf (now (self .entry)))) + number ⌝ }
+        ensures flag { λ r. ⌜ r < 560 ⌝ }
+        ensures room { λ r. ⌜ (r + 1) * words-per-slot ≤ sheet-size (size (stateOf (now (self .entry)))) ⌝ }
+    {
+        own * slots_per_group(self.groups()) + number
     }
 
     /// What the opening form says of group `a`.

@@ -16,7 +16,7 @@ use Rattle.forms.specs.Slots.{kindOf, counterOf}
 use Rattle.forms.specs.declared.fault.Fault.{Fault}
 use Rattle.forms.specs.declared.fault.Fault.the-variants.{UnlawfulHead, RepeatedHead}
 use Rattle.forms.proofs.Firsts.{each-passed, andThen-left, andThen-right}
-use Rattle.message.specs.Form.{count, kind-at, counter-at, value-at}
+use Rattle.message.specs.Form.{series-count, kind-at, counter-at, value-at}
 use Rattle.message.specs.Told.{is-trade, is-forecast, slot-under, slot-at}
 use Rattle.message.specs.Places.{first-of, head-is, place-under, place-of, sent-in, stated}
 use Rattle.message.specs.Heads.{names-other, lawful-head, Sendable, head-check, repeats, once-check, heads-check}
@@ -92,41 +92,41 @@ module _ (g own counter : ℕ) where
 
 module _ (g own : ℕ) (s : List ℕ) (passed : heads-check g own s ≡ Ok tt) where
   -- each head is that of a slot that the group may send
-  pub head-lawful : (i : ℕ) → i < count s → lawful-head g own (kind-at s i) (counter-at s i) ≡ true
+  pub head-lawful : (i : ℕ) → i < series-count s → lawful-head g own (kind-at s i) (counter-at s i) ≡ true
   head-lawful i l =
-      let p = andThen-left (each-of (head-check g own s) (count s)) (each-of (once-check s) (count s)) passed in
-      let h = each-passed (head-check g own s) (count s) i p l in
+      let p = andThen-left (each-of (head-check g own s) (series-count s)) (each-of (once-check s) (series-count s)) passed in
+      let h = each-passed (head-check g own s) (series-count s) i p l in
       not-false (lawful-head g own (kind-at s i) (counter-at s i)) (refuse-passed (not (lawful-head g own (kind-at s i) (counter-at s i))) (UnlawfulHead (i + 1)) h)
 
-  pub head-sent : (i : ℕ) → i < count s → Sent g own (kind-at s i) (counter-at s i)
+  pub head-sent : (i : ℕ) → i < series-count s → Sent g own (kind-at s i) (counter-at s i)
   head-sent i l = lawful-sent g own (counter-at s i) (kind-at s i) (head-lawful i l)
 
   -- no series before i has its head
-  none-before : (i : ℕ) → i < count s → first-of (head-is s (kind-at s i) (counter-at s i)) i ≡ None
+  none-before : (i : ℕ) → i < series-count s → first-of (head-is s (kind-at s i) (counter-at s i)) i ≡ None
   none-before i l =
-      let p = andThen-right (each-of (head-check g own s) (count s)) (each-of (once-check s) (count s)) passed in
-      none-from (first-of (head-is s (kind-at s i) (counter-at s i)) i) (refuse-passed (repeats s i) (RepeatedHead (i + 1)) (each-passed (once-check s) (count s) i p l))
+      let p = andThen-right (each-of (head-check g own s) (series-count s)) (each-of (once-check s) (series-count s)) passed in
+      none-from (first-of (head-is s (kind-at s i) (counter-at s i)) i) (refuse-passed (repeats s i) (RepeatedHead (i + 1)) (each-passed (once-check s) (series-count s) i p l))
 
-  place-under-head : (i : ℕ) → i < count s → place-under s (kind-at s i) (counter-at s i) ≡ Some i
+  place-under-head : (i : ℕ) → i < series-count s → place-under s (kind-at s i) (counter-at s i) ≡ Some i
   unfolding place-under
   place-under-head i l =
-      first-found (head-is s (kind-at s i) (counter-at s i)) (count s) i l (none-before i l)
+      first-found (head-is s (kind-at s i) (counter-at s i)) (series-count s) i l (none-before i l)
       (and-from (eqb (kind-at s i) (kind-at s i)) (eqb (counter-at s i) (counter-at s i)) (eq-eqb (kind-at s i) (kind-at s i) refl) (eq-eqb (counter-at s i) (counter-at s i) refl))
 
   -- a series is the one that is found for its slot
-  pub place-at-slot : (i : ℕ) → i < count s → place-of s (slot-at s i) ≡ Some i
+  pub place-at-slot : (i : ℕ) → i < series-count s → place-of s (slot-at s i) ≡ Some i
   place-at-slot i l = let p = head-sent i l in rw (p .kind-is, p .counter-is) (place-under-head i l)
 
   -- so no two series have one head, or are about one slot
-  pub heads-apart : (i j : ℕ) → i < count s → j < count s → kind-at s i ≡ kind-at s j → counter-at s i ≡ counter-at s j → i ≡ j
+  pub heads-apart : (i j : ℕ) → i < series-count s → j < series-count s → kind-at s i ≡ kind-at s j → counter-at s i ≡ counter-at s j → i ≡ j
   heads-apart i j l m e f = let p = place-under-head i l in let r = place-under-head j m in cc
 
-  pub slots-apart : (i j : ℕ) → i < count s → j < count s → slot-at s i ≡ slot-at s j → i ≡ j
+  pub slots-apart : (i j : ℕ) → i < series-count s → j < series-count s → slot-at s i ≡ slot-at s j → i ≡ j
   slots-apart i j l m e = let p = place-at-slot i l in let r = place-at-slot j m in cc (ap (place-of s) e)
 
   -- and what the message states for a slot is the value of its series
-  pub stated-at : (q i t : ℕ) → i < count s → stated q s (slot-at s i) t ≡ value-at q s i t
+  pub stated-at : (q i t : ℕ) → i < series-count s → stated q s (slot-at s i) t ≡ value-at q s i t
   stated-at q i t l = value-found q s (kindOf (slot-at s i)) (counterOf (slot-at s i)) i t (place-at-slot i l)
 
-  pub sent-at : (i : ℕ) → i < count s → sent-in s (slot-at s i) ≡ true
+  pub sent-at : (i : ℕ) → i < series-count s → sent-in s (slot-at s i) ≡ true
   sent-at i l = rw (place-at-slot i l) refl

@@ -11,7 +11,7 @@ use Rattle.std.proofs.shelf.Ways.{tells}
 use Rattle.std.specs.declared.option.Option.the-variants.{Some, None}
 use Rattle.std.specs.declared.result.Result.the-variants.{Ok}
 use Rattle.forms.specs.Bytes.{be32}
-use Rattle.message.specs.Form.{Formed, count, kind-at, counter-at, value-at, values-at}
+use Rattle.message.specs.Form.{Formed, series-count, kind-at, counter-at, value-at, values-at}
 use Rattle.message.specs.Told.{Told, trade, forecast, is-trade, is-forecast, placeOf, bytesOf, Names, slot-at, slot-under, toldSlot, seriesOf}
 use Rattle.message.specs.Heads.{heads-check}
 use Rattle.message.proofs.HeadLaws.{head-lawful}
@@ -60,14 +60,14 @@ module _ (q : ℕ) (s : List ℕ) (i : ℕ) where
     pub value-told : (t : ℕ) → t < q → be32 (bytesOf x) (4 * t) ≡ value-at q s i t
     value-told t m = ap (λ b. be32 b (4 * t)) bytes-told ∙ value-of-bytes q s i t m
 
-    pub length-told : Formed q s → i < count s → length (bytesOf x) ≡ 4 * q
+    pub length-told : Formed q s → i < series-count s → length (bytesOf x) ≡ 4 * q
     length-told f l = ap length bytes-told ∙ length-values q s i f l
 
     pub slot-told : toldSlot x ≡ slot-at s i
     slot-told = elim (either-told x shown) [ inl e ↦ ap toldSlot (e .1) | inr e ↦ ap toldSlot (e .1) ∙ forecast-slot (kind-at s i) (counter-at s i) (e .0) ]
 
 -- Once the heads have passed, each series is there, and a trade names a group.
-module _ (g own q : ℕ) (s : List ℕ) (passed : heads-check g own s ≡ Ok tt) (i : ℕ) (there : i < count s) where
+module _ (g own q : ℕ) (s : List ℕ) (passed : heads-check g own s ≡ Ok tt) (i : ℕ) (there : i < series-count s) where
   pub series-there : seriesOf q s i ≡ None → ⊥
   series-there h =
       elim (cases-bool (is-trade (kind-at s i))) [

@@ -7,7 +7,7 @@ use lib.Dec.{eqb}
 use Rattle.std.proofs.shelf.Tests.{and-parts, eqb-true}
 use Rattle.std.specs.declared.option.Option.the-variants.{Some, None}
 use Rattle.forms.specs.Slots.{Slot, out-to, in-from, cons, prod, pump, kindOf, counterOf}
-use Rattle.message.specs.Form.{count, kind-at, counter-at, value-at}
+use Rattle.message.specs.Form.{series-count, kind-at, counter-at, value-at}
 use Rattle.message.specs.Told.{slot-under, slot-at}
 use Rattle.message.specs.Places.{head-is, place-under, place-of, value-under}
 use Rattle.message.proofs.Search.{first-at}
@@ -22,14 +22,14 @@ value-missing q s kind counter t e = rw e refl
 
 -- the place that is found under a head is one of the message, with that head
 pub record Under (s : List ℕ) (kind counter i : ℕ) : Type 0 where
-  pub there : i < count s
+  pub there : i < series-count s
   pub kind-is : kind-at s i ≡ kind
   pub counter-is : counter-at s i ≡ counter
 
 pub found-under : (s : List ℕ) (kind counter i : ℕ) → place-under s kind counter ≡ Some i → Under s kind counter i
 unfolding place-under
 found-under s kind counter i e =
-    let f = first-at (head-is s kind counter) (count s) (Some i) e in
+    let f = first-at (head-is s kind counter) (series-count s) (Some i) e in
     let p = and-parts (eqb (kind-at s i) kind) (eqb (counter-at s i) counter) (f .1) in
     record { there = f .0; kind-is = eqb-true (kind-at s i) kind (p .0); counter-is = eqb-true (counter-at s i) counter (p .1) }
 

@@ -12,19 +12,19 @@ use Rattle.std.specs.declared.result.Result.the-variants.{Ok}
 use Rattle.forms.specs.Checks.{Verdict, andThen}
 use Rattle.forms.specs.Slots.{Slot, out-to, in-from, kindOf, counterOf}
 use Rattle.forms.proofs.Firsts.{each-passed, andThen-left, andThen-right}
-use Rattle.message.specs.Form.{count, value-at}
+use Rattle.message.specs.Form.{series-count, value-at}
 use Rattle.message.specs.Told.{is-forecast}
 use Rattle.message.specs.Places.{place-under, place-of, value-under, stated}
 use Rattle.message.specs.Values.{in-series, in-message, power-bound, range-check, forecast-check, opposed-check, values-check}
 use Rattle.message.proofs.Stated.{value-found, value-missing, found-under}
 
 -- a check over the message that passed has passed at each series and quarter hour
-pub in-message-passed : (q : ℕ) (s : List ℕ) (check : ℕ → ℕ → Verdict) (i t : ℕ) → in-message q s check ≡ Ok tt → i < count s → t < q → check i t ≡ Ok tt
-in-message-passed q s check i t h l m = each-passed (check i) q t (each-passed (in-series q check) (count s) i h l) m
+pub in-message-passed : (q : ℕ) (s : List ℕ) (check : ℕ → ℕ → Verdict) (i t : ℕ) → in-message q s check ≡ Ok tt → i < series-count s → t < q → check i t ≡ Ok tt
+in-message-passed q s check i t h l m = each-passed (check i) q t (each-passed (in-series q check) (series-count s) i h l) m
 
 module _ (q : ℕ) (metered : Bool) (s : List ℕ) (passed : values-check q metered s ≡ Ok tt) where
   -- no value is above the bound
-  pub value-bounded : (i t : ℕ) → i < count s → t < q → value-at q s i t ≤ power-bound
+  pub value-bounded : (i t : ℕ) → i < series-count s → t < q → value-at q s i t ≤ power-bound
   value-bounded i t l m =
       let p = andThen-left (in-message q s (range-check q s)) (andThen (in-message q s (forecast-check q metered s)) (in-message q s (opposed-check q s))) passed in
       let h = in-message-passed q s (range-check q s) i t p l m in

@@ -8,7 +8,7 @@ use Rattle.std.specs.Options.{isSome}
 use Rattle.forms.specs.Checks.{Verdict, andThen, refuse-if, each-of}
 use Rattle.forms.specs.declared.fault.Fault.the-variants.{UnlawfulHead, RepeatedHead}
 use Rattle.forms.specs.Slots.{Slot, out-to, in-from, cons, prod, pump}
-use Rattle.message.specs.Form.{count, kind-at, counter-at}
+use Rattle.message.specs.Form.{series-count, kind-at, counter-at}
 use Rattle.message.specs.Told.{is-trade, is-forecast}
 use Rattle.message.specs.Places.{first-of, head-is}
 
@@ -41,4 +41,4 @@ once-check s i = refuse-if (repeats s i) (RepeatedHead (i + 1))
 
 -- every head is lawful, and then none stands twice
 abbrev pub heads-check : ℕ → ℕ → List ℕ → Verdict
-heads-check g own s = andThen (each-of (head-check g own s) (count s)) (each-of (once-check s) (count s))
+heads-check g own s = andThen (each-of (head-check g own s) (series-count s)) (each-of (once-check s) (series-count s))

@@ -8,7 +8,7 @@ use Rattle.std.specs.Options.{isSome}
 use Rattle.std.specs.declared.option.Option.{Option}
 use Rattle.std.specs.declared.option.Option.the-variants.{Some, None}
 use Rattle.forms.specs.Slots.{Slot, kindOf, counterOf}
-use Rattle.message.specs.Form.{count, kind-at, counter-at, value-at}
+use Rattle.message.specs.Form.{series-count, kind-at, counter-at, value-at}
 
 -- the first of 0, 1, .., n - 1 that meets the test
 abbrev pub or-at : Option ℕ → Bool → ℕ → Option ℕ
@@ -30,7 +30,7 @@ head-is s kind counter i = eqb (kind-at s i) kind && eqb (counter-at s i) counte
 
 -- the first series with a head of this kind and counter
 unfoldable pub place-under : List ℕ → ℕ → ℕ → Option ℕ
-place-under s kind counter = first-of (head-is s kind counter) (count s)
+place-under s kind counter = first-of (head-is s kind counter) (series-count s)
 
 -- the first series that is about this slot
 abbrev pub place-of : List ℕ → Slot → Option ℕ

@@ -5,7 +5,7 @@ use Prim.Native.Nat.{ℕ, _+_}
 use lib.Dec.{eqb, ltb}
 use Rattle.forms.specs.Checks.{Verdict, andThen, refuse-if, each-of}
 use Rattle.forms.specs.declared.fault.Fault.the-variants.{OutOfRange, UnmeteredForecast, OpposedTrades}
-use Rattle.message.specs.Form.{count, kind-at, counter-at, value-at}
+use Rattle.message.specs.Form.{series-count, kind-at, counter-at, value-at}
 use Rattle.message.specs.Told.{is-forecast}
 use Rattle.message.specs.Places.{value-under}
 
@@ -15,7 +15,7 @@ in-series q check i = each-of (check i) q
 
 -- and over the whole message, series by series
 abbrev pub in-message : ℕ → List ℕ → (ℕ → ℕ → Verdict) → Verdict
-in-message q s check = each-of (in-series q check) (count s)
+in-message q s check = each-of (in-series q check) (series-count s)
 
 -- no power is above this
 abbrev pub power-bound : ℕ

@@ -2,7 +2,7 @@
 ghost use mathlib.Core.Path.{_≡_};
 ghost use Prim.Native.Nat.{_<_};
 ghost use Rattle.forms.specs.Checks.{each-of};
-ghost use Rattle.message.specs.Form.{Formed, count};
+ghost use Rattle.message.specs.Form.{Formed, series-count};
 ghost use Rattle.message.specs.Heads.{head-check, once-check, heads-check};
 use crate::Head;
 use crate::MessageReader;
@@ -13,7 +13,7 @@ impl<'a> MessageReader<'a> {
     /// The head of series `i` names another group in a trade, and 0 in a forecast.
     fn check_head(&self, groups: u8, own: u8, i: u8) -> Result<(), Fault>
         requires formed { ⌜ Formed (now self .quarters) (now (now self .bytes)) ⌝ }
-        requires there { ⌜ i < count (now (now self .bytes)) ⌝ }
+        requires there { ⌜ i < series-count (now (now self .bytes)) ⌝ }
         ensures { λ r. ⌜ r ≡ head-check groups own (now (now (self .entry) .bytes)) i ⌝ }
     {
         let Head { kind, counter } = self.head(i);
@@ -27,7 +27,7 @@ impl<'a> MessageReader<'a> {
     /// No series before `i` has the head of series `i`. The later one is named.
     fn check_once(&self, i: u8) -> Result<(), Fault>
         requires formed { ⌜ Formed (now self .quarters) (now (now self .bytes)) ⌝ }
-        requires there { ⌜ i < count (now (now self .bytes)) ⌝ }
+        requires there { ⌜ i < series-count (now (now self .bytes)) ⌝ }
         ensures { λ r. ⌜ r ≡ once-check (now (now (self .entry) .bytes)) i ⌝ }
     {
         let Head { kind, counter } = self.head(i);
@@ -40,7 +40,7 @@ impl<'a> MessageReader<'a> {
     /// Every head is lawful.
     fn check_each_head(&self, groups: u8, own: u8) -> Result<(), Fault>
         requires { ⌜ Formed (now self .quarters) (now (now self .bytes)) ⌝ }
-        ensures { λ r. ⌜ r ≡ each-of (head-check groups own (now (now (self .entry) .bytes))) (count (now (now (self .entry) .bytes))) ⌝ }
+        ensures { λ r. ⌜ r ≡ each-of (head-check groups own (now (now (self .entry) .bytes))) (series-count (now (now (self .entry) .bytes))) ⌝ }
     {
         for i in 0..self.count() {
             self.check_head(groups, own, i)?;
@@ -51,7 +51,7 @@ impl<'a> MessageReader<'a> {
     /// No head stands twice.
     fn check_each_once(&self) -> Result<(), Fault>
         requires { ⌜ Formed (now self .quarters) (now (now self .bytes)) ⌝ }
-        ensures { λ r. ⌜ r ≡ each-of (once-check (now (now (self .entry) .bytes))) (count (now (now (self .entry) .bytes))) ⌝ }
+        ensures { λ r. ⌜ r ≡ each-of (once-check (now (now (self .entry) .bytes))) (series-count (now (now (self .entry) .bytes))) ⌝ }
     {
         for i in 0..self.count() {
             self.check_once(i)?;

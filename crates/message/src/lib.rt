@@ -6,7 +6,7 @@ ghost use mathlib.Core.Path.{_≡_};
 ghost use Prim.Native.Nat.{_+_, _*_, _<_, _≤_};
 ghost use lib.ListN.{length};
 ghost use Rattle.std.specs.Vec.{made};
-ghost use Rattle.message.specs.Form.{Formed, count, headerOf, headOf, value-at, values-at, values-start};
+ghost use Rattle.message.specs.Form.{Formed, series-count, headerOf, headOf, value-at, values-at, values-start};
 
 pub mod find;
 pub mod heads;
@@ -87,7 +87,7 @@ impl<'a> MessageReader<'a> {
     /// How many series the message has.
     pub fn count(&self) -> u8
         requires { ⌜ Formed (now self .quarters) (now (now self .bytes)) ⌝ }
-        ensures { λ r. ⌜ r ≡ count (now (now (self .entry) .bytes)) ⌝ }
+        ensures { λ r. ⌜ r ≡ series-count (now (now (self .entry) .bytes)) ⌝ }
     {
         self.bytes[0]
     }
@@ -95,7 +95,7 @@ impl<'a> MessageReader<'a> {
     /// The head of series `i`.
     pub fn head(&self, i: u8) -> Head
         requires formed { ⌜ Formed (now self .quarters) (now (now self .bytes)) ⌝ }
-        requires there { ⌜ i < count (now (now self .bytes)) ⌝ }
+        requires there { ⌜ i < series-count (now (now self .bytes)) ⌝ }
         ensures { λ r. ⌜ r ≡ headOf (now (now (self .entry) .bytes)) i ⌝ }
     {
         let at = HEADER + 2 * i as usize;
@@ -108,7 +108,7 @@ impl<'a> MessageReader<'a> {
     /// Where the values of series `i` begin.
     fn start(&self, i: u8) -> usize
         requires formed { ⌜ Formed (now self .quarters) (now (now self .bytes)) ⌝ }
-        requires there { ⌜ i < count (now (now self .bytes)) ⌝ }
+        requires there { ⌜ i < series-count (now (now self .bytes)) ⌝ }
         ensures value { λ r. ⌜ r ≡ values-start (now (self .entry) .quarters) (now (now (self .entry) .bytes)) i ⌝ }
         ensures room { λ r. ⌜ r + 4 * now (self .entry) .quarters ≤ length (now (now (self .entry) .bytes)) ⌝ }
     {
@@ -118,7 +118,7 @@ impl<'a> MessageReader<'a> {
     /// The value of series `i` at quarter hour `t`.
     pub fn value(&self, i: u8, t: u8) -> u32
         requires formed { ⌜ Formed (now self .quarters) (now (now self .bytes)) ⌝ }
-        requires there { ⌜ i < count (now (now self .bytes)) ⌝ }
+        requires there { ⌜ i < series-count (now (now self .bytes)) ⌝ }
         requires within { ⌜ t < now self .quarters ⌝ }
         ensures { λ r. ⌜ r ≡ value-at (now (self .entry) .quarters) (now (now (self .entry) .bytes)) i t ⌝ }
     {
@@ -128,7 +128,7 @@ impl<'a> MessageReader<'a> {
     /// The bytes of the values of series `i`.
     pub fn values(&self, i: u8) -> &'a [u8]
         requires formed { ⌜ Formed (now self .quarters) (now (now self .bytes)) ⌝ }
-        requires there { ⌜ i < count (now (now self .bytes)) ⌝ }
+        requires there { ⌜ i < series-count (now (now self .bytes)) ⌝ }
         ensures { λ r. ⌜ now r ≡ values-at (now (self .entry) .quarters) (now (now (self .entry) .bytes)) i ⌝ }
     {
         let start = self.start(i);

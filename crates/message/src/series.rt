@@ -4,7 +4,7 @@ ghost use Prim.Native.Nat.{_+_, _*_, _<_, _≤_};
 ghost use lib.ListN.{length};
 ghost use Rattle.forms.specs.Bytes.{be32};
 ghost use Rattle.forms.specs.Slots.{slotOf};
-ghost use Rattle.message.specs.Form.{Formed, count};
+ghost use Rattle.message.specs.Form.{Formed, series-count};
 ghost use Rattle.message.specs.Told.{told, Shows, Names, placeOf, bytesOf, toldSlot};
 use crate::Head;
 use crate::MessageReader;
@@ -27,8 +27,8 @@ pub enum ForecastKind {
     Pump,
 }
 
-/// One series, with its place in the message from 1. Its values are still in bytes. The counter of a
-/// trade is that of its head, the other group counted from 1.
+/// One series, with its place in the message from 1. Its values are still in bytes. The counter of
+/// a trade is that of its head, the other group counted from 1.
 #[derive(Clone, Copy)]
 pub enum Series<'a> {
     Trade {
@@ -48,7 +48,7 @@ impl<'a> MessageReader<'a> {
     /// Series `i` as read, or none where its kind is no kind.
     pub fn series(&self, i: u8) -> Option<Series<'a>>
         requires formed { ⌜ Formed (now self .quarters) (now (now self .bytes)) ⌝ }
-        requires there { ⌜ i < count (now (now self .bytes)) ⌝ }
+        requires there { ⌜ i < series-count (now (now self .bytes)) ⌝ }
         ensures { λ r. ⌜ Shows r (now (self .entry) .quarters) (now (now (self .entry) .bytes)) i ⌝ }
     {
         let Head { kind, counter } = self.head(i);

@@ -1,7 +1,7 @@
 //! Which values a message may have.
 ghost use mathlib.Core.Path.{_≡_};
 ghost use Prim.Native.Nat.{_<_};
-ghost use Rattle.message.specs.Form.{Formed, count};
+ghost use Rattle.message.specs.Form.{Formed, series-count};
 ghost use Rattle.message.specs.Told.{is-forecast};
 ghost use Rattle.message.specs.Values.{in-series, in-message, range-check, forecast-check, opposed-check, values-check};
 use crate::Head;
@@ -12,9 +12,10 @@ use forms::fault::Fault;
 /// The highest power, in kW.
 pub const POWER_BOUND: u32 = 10_000_000;
 
-/// The kinds of a trade out and of a trade in.
+/// The kind of a trade out.
 const OUT: u8 = 1;
 
+/// The kind of a trade in.
 const IN: u8 = 2;
 
 /// Kinds 3 to 5 are forecasts.
@@ -28,7 +29,7 @@ impl<'a> MessageReader<'a> {
     /// No value of series `i` is above the bound.
     fn check_range(&self, i: u8) -> Result<(), Fault>
         requires formed { ⌜ Formed (now self .quarters) (now (now self .bytes)) ⌝ }
-        requires there { ⌜ i < count (now (now self .bytes)) ⌝ }
+        requires there { ⌜ i < series-count (now (now self .bytes)) ⌝ }
         ensures { λ r. ⌜ r ≡ in-series (now (self .entry) .quarters) (range-check (now (self .entry) .quarters) (now (now (self .entry) .bytes))) i ⌝ }
     {
         for t in 0..self.quarters {
@@ -45,7 +46,7 @@ impl<'a> MessageReader<'a> {
     /// Series `i` is no forecast above 0 of a group without metering points.
     fn check_forecast(&self, metered: bool, i: u8) -> Result<(), Fault>
         requires formed { ⌜ Formed (now self .quarters) (now (now self .bytes)) ⌝ }
-        requires there { ⌜ i < count (now (now self .bytes)) ⌝ }
+        requires there { ⌜ i < series-count (now (now self .bytes)) ⌝ }
         ensures { λ r. ⌜ r ≡ in-series (now (self .entry) .quarters) (forecast-check (now (self .entry) .quarters) metered (now (now (self .entry) .bytes))) i ⌝ }
     {
         if metered || !is_forecast(self.head(i).kind) {
@@ -62,10 +63,11 @@ impl<'a> MessageReader<'a> {
         Ok(())
     }
 
-    /// Series `i` is no trade out with a trade in from the same group at once. The out series is named.
+    /// Series `i` is no trade out with a trade in from the same group at once. The out series is
+    /// named.
     fn check_trade(&self, i: u8) -> Result<(), Fault>
         requires formed { ⌜ Formed (now self .quarters) (now (now self .bytes)) ⌝ }
-        requires there { ⌜ i < count (now (now self .bytes)) ⌝ }
+        requires there { ⌜ i < series-count (now (now self .bytes)) ⌝ }
         ensures { λ r. ⌜ r ≡ in-series (now (self .entry) .quarters) (opposed-check (now (self .entry) .quarters) (now (now (self .entry) .bytes))) i ⌝ }
     {
         let Head { kind, counter } = self.head(i);

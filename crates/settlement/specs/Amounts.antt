@@ -15,6 +15,7 @@ use Rattle.settlement.specs.Sums.{sumℤ}
 abbrev pub is-marked : ℕ → Bool
 is-marked E = ltb 0 E
 
+-- where there is no row
 abbrev pub no-rates : RateFigures
 no-rates = record { fee = 0; rate = 0 }
 

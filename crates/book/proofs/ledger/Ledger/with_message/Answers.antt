@@ -1,0 +1,39 @@
+use Prim.Native.Nat.{_<_}
+use native.Mathlib.Omega.{arith}
+use borrow.Author.Needs.{needs}
+use mathlib.Core.Path.{_∙_}
+use lib.ListN.{length}
+use Rattle.std.proofs.shelf.Lists.{length-set}
+use Rattle.forms.proofs.OpeningLaws.{count-in}
+use Rattle.book.specs.Kept.{days-in, penalties-in, balance-in}
+use Rattle.book.proofs.Accounts.{bounded-set}
+use Rattle.book.proofs.ledger.Ledger.with_message.Needs as need
+
+pub offset-accounts-own : need.offset-accounts-own
+offset-accounts-own c = let l : c .args .own < 16 = omega (arith, c .pre .sender, count-in (c .args .self .now .opening)) in search needs
+
+pub index-accounts-own : need.index-accounts-own
+index-accounts-own c = omega (arith, c .pre .sender, count-in (c .args .self .now .opening))
+
+pub ghost-result : need.ghost-result
+ghost-result c =
+    let l = c .args .self .now in
+    let own = c .args .own in
+    let within : own < length (l .accounts) = omega (arith, c .pre .sender, count-in (l .opening), l .groups) in
+    let old = c .account-account .ensures in
+    (
+      l .year,
+      (
+        search needs,
+        (
+          length-set (l .accounts) own _ ∙ l .groups,
+          (
+            bounded-set days-in (l .accounts) own _ _ within (old .days) (l .marked),
+            (
+              bounded-set penalties-in (l .accounts) own _ _ within (old .penalties) (l .owed),
+              (bounded-set balance-in (l .accounts) own _ _ within (old .balance) (l .settled), tt),
+            ),
+          ),
+        ),
+      ),
+    )
