@@ -6,5 +6,6 @@ pub mod Counting
 pub mod Days
 pub mod Powers
 pub mod RowLists
+pub mod Submitting
 pub mod Tariffs
 pub mod Verdicts

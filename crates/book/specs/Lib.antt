@@ -1,3 +1,4 @@
+pub mod Calls
 pub mod Closes
 pub mod Cuts
 pub mod Kept

@@ -12,7 +12,7 @@ use Rattle.std.specs.declared.option.Option.the-variants.{Some, None}
 use Rattle.std.specs.declared.result.Result.{Result}
 use Rattle.std.specs.declared.result.Result.the-variants.{Ok, Err}
 use Rattle.forms.specs.declared.fault.Fault.{Fault}
-use Rattle.forms.specs.declared.fault.Fault.the-variants.{WrongGroup, WrongDay, WrongVersion, MissingSeries, GrowingPosition}
+use Rattle.forms.specs.declared.fault.Fault.the-variants.{WrongDay, WrongVersion, MissingSeries, GrowingPosition}
 use Rattle.forms.specs.Checks.{Verdict, andThen, refuse-if, each-of}
 use Rattle.forms.specs.Slots.{Slot, out-to, in-from, cons, prod, pump}
 use Rattle.message.specs.Form.{Formed, headerOf, said}
@@ -22,9 +22,10 @@ use Rattle.message.specs.Places.{first-of, sent-in, stated}
 use Rattle.settlement.specs.declared.phase.Phase.{Phase}
 use Rattle.settlement.specs.declared.phase.Phase.the-variants.{Ahead, Near, After}
 use Rattle.settlement.specs.Positions.{stated-open, excess, as-far-out}
-use Rattle.settlement.specs.Sheets.{Statements, slots, words-per-slot}
+use Rattle.settlement.specs.Sheets.{Statements, slots, sheet-size, words-per-slot}
+use Rattle.book.specs.declared.sender.Sender.{Sender}
 use Rattle.book.specs.Cuts.{is-after, state-if, sheet-if}
-use Rattle.book.specs.Queries.{one-of, answer-if, day-check}
+use Rattle.book.specs.Queries.{answer-if, day-check, group-check}
 use Rattle.book.specs.States.{State, GroupState, size, figures, kept, today, day-quarters, statements}
 
 -- how many of the numbers below n pass a test
@@ -77,12 +78,12 @@ abbrev pub passed : {A : Type 0} → Result A Fault → Verdict
 passed (Ok _) = Ok tt
 passed (Err e) = Err e
 
--- the tests of a message, in rising number; own is the sender
-abbrev pub sender-check : State → List ℕ → Verdict
-sender-check s form =
-    andThen (refuse-if (not (one-of (size s) (said form .group))) WrongGroup)
-    (andThen (refuse-if (not (eqb (said form .day) (today s))) WrongDay)
-    (refuse-if (not (eqb (said form .version) (kept s (said form .group - 1) .version + 1))) WrongVersion))
+-- The tests of a message, in rising number. First its group, day and version, then its series; own is the sender.
+abbrev pub sender-check : State → ℕ → ℕ → ℕ → Verdict
+sender-check s group day version =
+    andThen (group-check s group)
+    (andThen (refuse-if (not (eqb day (today s))) WrongDay)
+    (refuse-if (not (eqb version (kept s (group - 1) .version + 1))) WrongVersion))
 
 abbrev pub series-check : State → List ℕ → ℕ → List ℕ → Verdict
 series-check s sheet own form =
@@ -95,7 +96,23 @@ abbrev pub submit-check : State → List ℕ → List ℕ → Verdict
 submit-check s sheet form =
     andThen (passed (headerOf (day-quarters s) form))
     (andThen (day-check s sheet)
-    (andThen (sender-check s form) (series-check s sheet (said form .group - 1) form)))
+    (andThen (sender-check s (said form .group) (said form .day) (said form .version)) (series-check s sheet (said form .group - 1) form)))
+
+-- what the tests answer: the sender and the version, or the fault
+abbrev pub Sends : Result Sender Fault → State → ℕ → ℕ → ℕ → Type 0
+Sends (Ok x) s group day version = (sender-check s group day version ≡ Ok tt) × (x .own ≡ group - 1) × (x .own < size s) × (x .version ≡ version)
+Sends (Err e) s group day version = sender-check s group day version ≡ Err e
+
+pub record Passed (x : Sender) (s : State) (sheet : List ℕ) (q : ℕ) (form : List ℕ) : Type 0 where
+  pub checks : submit-check s sheet form ≡ Ok tt
+  pub sender : x .own ≡ said form .group - 1
+  pub version : x .version ≡ said form .version
+  pub read : Read s (x .own) q form
+  pub room : length sheet ≡ sheet-size (size s)
+
+abbrev pub Passes : Result Sender Fault → State → List ℕ → ℕ → List ℕ → Type 0
+Passes (Ok x) s sheet q form = Passed x s sheet q form
+Passes (Err e) s sheet q form = submit-check s sheet form ≡ Err e
 
 -- Its series stand in their slots: a place belongs to the sender, and the message has the series of that slot.
 abbrev pub owns : ℕ → ℕ → ℕ → Bool

@@ -19,7 +19,12 @@ impl Ledger {
         ensures { λ r. ⌜ r ≡ beyond-now (stateOf (now (self .entry))) (now (sheet .entry)) own t ⌝ }
     {
         let figures = self.figures(own);
-        excess(&figures, self.phase, self.on(sheet).stated_open(&figures, own, t)) > 0
+        excess(
+            &figures,
+            self.phase,
+            self.on(sheet).stated_open(&figures, own, t),
+        )
+            > 0
     }
 
     /// How many quarter hours of the group have a stated open position beyond the phase's limit, and

@@ -55,7 +55,13 @@ fn stated_trades(reader: &MessageReader<'_>, groups: usize, own: usize, t: u8) -
 }
 
 /// The open position that a message of group `own` states.
-fn open_by_message(reader: &MessageReader<'_>, figures: &Group, groups: usize, own: usize, t: u8) -> i64
+fn open_by_message(
+    reader: &MessageReader<'_>,
+    figures: &Group,
+    groups: usize,
+    own: usize,
+    t: u8,
+) -> i64
     requires { ⌜ Formed (now reader .quarters) (now (now reader .bytes)) ⌝ ∗ ⌜ t < now reader .quarters ⌝ ∗ ⌜ groups ≤ 16 ⌝ }
     ensures { λ r. ⌜ r ≡ stated-open (by-message own (now (reader .entry) .quarters) (now (now (reader .entry) .bytes))) (figuresOf (now (figures .entry))) groups t own ⌝ }
 {
@@ -84,7 +90,12 @@ impl Ledger {
     }
 
     /// Refuses the first quarter hour at which the message moves the group farther out.
-    fn check_each_growth(&self, reader: &MessageReader<'_>, own: usize, sheet: &[u32]) -> Result<(), Fault>
+    fn check_each_growth(
+        &self,
+        reader: &MessageReader<'_>,
+        own: usize,
+        sheet: &[u32],
+    ) -> Result<(), Fault>
         requires read { ⌜ Read (stateOf (now self)) own (now reader .quarters) (now (now reader .bytes)) ⌝ }
         requires sheet { ⌜ length (now sheet) ≡ sheet-size (size (stateOf (now self))) ⌝ }
         ensures { λ r. ⌜ r ≡ each-growth (stateOf (now (self .entry))) (now (sheet .entry)) own (now (now (reader .entry) .bytes)) (day-quarters (stateOf (now (self .entry)))) ⌝ }
@@ -100,7 +111,12 @@ impl Ledger {
     }
 
     /// Refuses, after the cut-off, a message that moves a trading group farther out.
-    pub(crate) fn check_growth(&self, reader: &MessageReader<'_>, own: usize, sheet: &[u32]) -> Result<(), Fault>
+    pub(crate) fn check_growth(
+        &self,
+        reader: &MessageReader<'_>,
+        own: usize,
+        sheet: &[u32],
+    ) -> Result<(), Fault>
         requires read { ⌜ Read (stateOf (now self)) own (now reader .quarters) (now (now reader .bytes)) ⌝ }
         requires sheet { ⌜ length (now sheet) ≡ sheet-size (size (stateOf (now self))) ⌝ }
         ensures { λ r. ⌜ r ≡ growth-check (stateOf (now (self .entry))) (now (sheet .entry)) own (now (now (reader .entry) .bytes)) ⌝ }

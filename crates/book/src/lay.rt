@@ -50,7 +50,12 @@ impl Ledger {
     }
 
     /// The ledger once the message is accepted.
-    pub(crate) fn with_message(&self, reader: &MessageReader<'_>, own: usize, version: u16) -> Ledger
+    pub(crate) fn with_message(
+        &self,
+        reader: &MessageReader<'_>,
+        own: usize,
+        version: u16,
+    ) -> Ledger
         requires { ⌜ Read (stateOf (now self)) own (now reader .quarters) (now (now reader .bytes)) ⌝ }
         ensures { λ r. ⌜ size (stateOf r) ≡ size (stateOf (now (self .entry))) ⌝ }
     {

@@ -2,6 +2,7 @@
 pub mod answers;
 pub mod begin;
 pub mod beyond;
+pub mod book;
 pub mod close;
 pub mod complete;
 pub mod cut_off;
@@ -12,6 +13,8 @@ pub mod ledger;
 pub mod opened;
 pub mod queries;
 pub mod result_row;
+pub mod sender;
 pub mod slots;
+pub mod submit;
 pub mod today;
 pub mod whole_sheet;

@@ -2,6 +2,7 @@
 ghost use mathlib.Core.Path.{_≡_};
 ghost use Prim.Native.Nat.{_+_, _*_, _<_, _≤_};
 ghost use lib.ListN.{length};
+ghost use Rattle.std.specs.Vec.{made};
 ghost use Rattle.forms.specs.Figures.{figuresOf};
 ghost use Rattle.settlement.specs.Sheets.{SheetOf, slots, sheet-size, words-per-slot};
 ghost use Rattle.book.specs.Kept.{cut-offs, days-in, penalties-in, balance-in, most-penalty, most-balance};
@@ -92,7 +93,8 @@ impl Ledger {
 
     /// Refuses when the year is over, or when the sheet does not fit.
     pub(crate) fn check_day(&self, sheet: &[u32]) -> Result<(), Fault>
-        ensures { λ r. ⌜ r ≡ day-check (stateOf (now (self .entry))) (now (sheet .entry)) ⌝ }
+        ensures value { λ r. ⌜ r ≡ day-check (stateOf (now (self .entry))) (now (sheet .entry)) ⌝ }
+        ensures room { λ r. ⌜ made r (λ _. length (now (sheet .entry)) ≡ sheet-size (size (stateOf (now (self .entry))))) ⌝ }
     {
         if self.year_over() {
             return Err(Fault::WrongPhase);

@@ -20,8 +20,7 @@ ghost-result c =
     let l = c .args .self .now in
     let own = c .args .own in
     let within : own < length (l .accounts) = omega (arith, c .pre .sender, count-in (l .opening), l .groups) in
-    let old = c .account-account .ensures in
-    (
+    let old = c .account-account .ensures in (
       l .year,
       (
         search needs,
