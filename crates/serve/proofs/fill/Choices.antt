@@ -1,6 +1,6 @@
 use Prim.Native.Nat.{_-_, _≤_}
 use lib.ListN.{length}
-use Rattle.account.proofs.fill.Given as given
+use Rattle.serve.proofs.fill.Given as given
 
 abbrev pub Inv-loop-at : given.InvT-loop-at
 Inv-loop-at g l = l .at ≤ length (l .buffer)
