@@ -5,8 +5,8 @@ use Prim.Native.Nat.{ℕ, _*_, _<_, _≤_}
 use native.Mathlib.Omega.{arith}
 use lib.ListN.{length, getD, set, take, replicate}
 use mathlib.Core.Logic.{inl, inr}
-use Rattle.std.proofs.shelf.Lists.{map-set, getD-map, getD-take, getD-past, getD-replicate, length-map, length-replicate, length-take-le}
-use Rattle.std.proofs.shelf.Tests.{cases-lt}
+use Rattle.std.proofs.shelf.Lists.{map-set, getD-map, getD-take, getD-past, getD-set-same, getD-set-other, same-lists, length-set, getD-replicate, length-map, length-replicate, length-take-le}
+use Rattle.std.proofs.shelf.Tests.{cases-eq, cases-lt}
 use Rattle.forms.proofs.Writes.{set-keeps}
 use Rattle.book.specs.declared.group_account.GroupAccount.{GroupAccount}
 use Rattle.book.specs.States.{GroupState, accountOf, own-accounts}
@@ -42,3 +42,22 @@ bounded-set f xs i v b l p h k =
 
 pub bounded-more : (f : GroupAccount → ℕ) (xs : List GroupAccount) (b c : ℕ) → b ≤ c → ((k : ℕ) → getD (map f xs) k 0 ≤ b) → (k : ℕ) → getD (map f xs) k 0 ≤ c
 bounded-more f xs b c l h k = omega (arith, h k)
+
+-- one account written
+pub own-set : (g : ℕ) (xs : List GroupAccount) (a : ℕ) (v : GroupAccount) → a < g → g ≤ length xs
+    → own-accounts g (set xs a v) ≡ set (own-accounts g xs) a (accountOf v)
+own-set g xs a v l h =
+    let long : g ≤ length (set xs a v) = omega (arith, length-set xs a v) in
+    same-lists (own-accounts g (set xs a v)) (set (own-accounts g xs) a (accountOf v))
+    (length-own g (set xs a v) long ∙ sym (length-set (own-accounts g xs) a (accountOf v) ∙ length-own g xs h))
+    (λ k d m.
+    let below : k < g = omega (arith, length-own g (set xs a v) long) in
+    account-at g (set xs a v) k v d below long
+    ∙ elim (cases-eq k a) [
+      | inl e ↦
+          ap (λ j. accountOf (getD (set xs a v) j v)) e ∙ ap accountOf (getD-set-same xs a v v (omega arith))
+          ∙ sym (getD-set-same (own-accounts g xs) a (accountOf v) d (omega (arith, length-own g xs h))) ∙ ap (λ j. getD (set (own-accounts g xs) a (accountOf v)) j d) (sym e)
+      | inr f ↦
+          ap accountOf (getD-set-other xs a k v v f) ∙ sym (account-at g xs k v d below h)
+          ∙ sym (getD-set-other (own-accounts g xs) a k (accountOf v) d f)
+    ])

@@ -4,6 +4,8 @@ pub mod Closing
 pub mod Costs
 pub mod Counting
 pub mod Days
+pub mod Flagging
+pub mod Laying
 pub mod Powers
 pub mod RowLists
 pub mod Submitting

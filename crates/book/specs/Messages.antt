@@ -15,7 +15,7 @@ use Rattle.forms.specs.declared.fault.Fault.{Fault}
 use Rattle.forms.specs.declared.fault.Fault.the-variants.{WrongDay, WrongVersion, MissingSeries, GrowingPosition}
 use Rattle.forms.specs.Checks.{Verdict, andThen, refuse-if, each-of}
 use Rattle.forms.specs.Slots.{Slot, out-to, in-from, cons, prod, pump}
-use Rattle.message.specs.Form.{Formed, headerOf, said}
+use Rattle.message.specs.Form.{Formed, headerOf, said, value-at}
 use Rattle.message.specs.Heads.{heads-check}
 use Rattle.message.specs.Values.{values-check}
 use Rattle.message.specs.Places.{first-of, sent-in, stated}
@@ -133,16 +133,24 @@ word-after g q own form sheet k =
 unfoldable pub sheet-after : ℕ → ℕ → ℕ → List ℕ → List ℕ → List ℕ
 sheet-after g q own form sheet = map (word-after g q own form sheet) (counting 0 (length sheet))
 
+-- one series in it: its first n values stand from `at` on, and no other word has changed
+unfoldable pub series-laid : ℕ → List ℕ → ℕ → ℕ → ℕ → List ℕ → ℕ → ℕ
+series-laid q form i at n sheet k = cond (leb at k && ltb k (at + n)) (value-at q form i (k - at)) (getD sheet k 0)
+
+unfoldable pub flags-after : ℕ → ℕ → List ℕ → List Bool → List Bool
+flags-after g own form sent = map (sent-after g own form sent) (counting 0 (length sent))
+
 abbrev pub with-version : GroupState → ℕ → GroupState
 with-version k version = record { version = version; marks = k .marks; due = k .due; penalties = k .penalties; balance = k .balance }
 
-unfoldable pub state-after : State → ℕ → List ℕ → State
-state-after s own form = record {
+-- the book once a message of group own is accepted
+abbrev pub state-with : State → ℕ → ℕ → List ℕ → State
+state-with s own version form = record {
   terms = s .terms;
   closed = s .closed;
   phase = s .phase;
-  sent = map (sent-after (size s) own form (s .sent)) (counting 0 (length (s .sent)));
-  groups = set (s .groups) own (with-version (kept s own) (said form .version));
+  sent = flags-after (size s) own form (s .sent);
+  groups = set (s .groups) own (with-version (kept s own) version);
 }
 
 -- a quarter hour whose stated open position, by the sheet, is beyond the limit of the phase
@@ -163,6 +171,6 @@ beyond-count s own form =
 abbrev pub submitted : State → List ℕ → List ℕ → Result (ℕ × Option ℕ) Fault × State × List ℕ
 submitted s sheet form = (
   answer-if (submit-check s sheet form) (beyond-count s (said form .group - 1) form),
-  state-if (submit-check s sheet form) (state-after s (said form .group - 1) form) s,
+  state-if (submit-check s sheet form) (state-with s (said form .group - 1) (said form .version) form) s,
   sheet-if (submit-check s sheet form) (sheet-after (size s) (day-quarters s) (said form .group - 1) form sheet) sheet,
 )
