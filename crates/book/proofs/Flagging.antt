@@ -27,7 +27,7 @@ module _ (g own : ℕ) (form : List ℕ) (sent : List Bool) where
   flag-past : (k : ℕ) → (own + 1) * slots g ≤ k → sent-after g own form sent k ≡ getD sent k false
   flag-past k l = cond-false _ _ _ (and-right _ _ (le-ltb k ((own + 1) * slots g) l))
 
-  flag-own : (n k : ℕ) → n < slots g → k ≡ own * slots g + n → sent-after g own form sent k ≡ sent-in form (slot-at g n)
+  pub flag-own : (n k : ℕ) → n < slots g → k ≡ own * slots g + n → sent-after g own form sent k ≡ sent-in form (slot-at g n)
   flag-own n k l e =
       cond-true _ _ _ (and-from _ _ (le-leb (own * slots g) k (omega arith)) (lt-ltb k ((own + 1) * slots g) (omega (arith, add-mul own 1 (slots g)))))
       ∙ ap (λ j. sent-in form (slot-at g j)) (let d : k - own * slots g ≡ n = omega arith in d)

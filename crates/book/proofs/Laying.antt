@@ -77,6 +77,16 @@ module _ (g q own : ℕ) (form sheet : List ℕ) where
       let there = sent-in form (own-slot g own (k / 96)) in
       cond-false (mine && (there && ltb (k % 96) q)) (stated q form (own-slot g own (k / 96)) (k % 96)) (getD sheet k 0) (and-right mine (there && ltb (k % 96) q) (and-right there (ltb (k % 96) q) (le-ltb (k % 96) q l)))
 
+  -- a word of one of the sender's slots that the message has
+  pub word-own : (n : ℕ) → n < slots g → (k t : ℕ) → k / 96 ≡ own * slots g + n → k % 96 ≡ t → t < q → sent-in form (slot-at g n) ≡ true
+      → word-after g q own form sheet k ≡ stated q form (slot-at g n) t
+  word-own n below k t e f l there =
+      let number : own-slot g own (k / 96) ≡ slot-at g n = ap (slot-at g) (let d : k / 96 - own * slots g ≡ n = omega arith in d) in
+      cond-true (owns g own (k / 96) && (sent-in form (own-slot g own (k / 96)) && ltb (k % 96) q)) (stated q form (own-slot g own (k / 96)) (k % 96)) (getD sheet k 0)
+      (and-from _ _ (and-from _ _ (le-leb (own * slots g) (k / 96) (omega arith)) (lt-ltb (k / 96) ((own + 1) * slots g) (omega (arith, add-mul own 1 (slots g)))))
+      (and-from _ _ (ap (sent-in form) number ∙ there) (lt-ltb (k % 96) q (omega arith))))
+      ∙ (λ j. stated q form (number j) (f j))
+
   laid-yes : (n k : ℕ) → k / 96 < own * slots g + n → slots-laid g q own form n sheet k ≡ word-after g q own form sheet k
   unfolding slots-laid
   laid-yes n k l = cond-true _ _ _ (lt-ltb _ _ l)

@@ -1,3 +1,4 @@
+pub mod Accepted
 pub mod Accounts
 pub mod ByMessage
 pub mod Closing

@@ -12,12 +12,17 @@ use Rattle.forms.specs.declared.fault.Fault.the-variants.{WrongPhase}
 use Rattle.forms.specs.Checks.{Verdict}
 use Rattle.book.specs.Closes.{Lent, closed-by}
 use Rattle.book.specs.Cuts.{advanced}
+use Rattle.book.specs.Messages.{submitted}
 use Rattle.book.specs.Queries.{position-answer, trade-answer, standing-answer, total-answer}
 use Rattle.book.specs.States.{State}
 
 -- a place with its rule and its state, or an empty one
 abbrev pub Place : Type 0 → Type 0
 Place R = Option (R × State)
+
+abbrev pub submits : {R : Type 0} → Place R → List ℕ → List ℕ → Result (ℕ × Option ℕ) Fault × Place R × List ℕ
+submits None sheet form = (Err WrongPhase, None, sheet)
+submits (Some p) sheet form = (submitted (p .1) sheet form .0, Some (p .0, submitted (p .1) sheet form .1), submitted (p .1) sheet form .2)
 
 abbrev pub advances : {R : Type 0} → (R → List Bool → ℕ) → Place R → List ℕ → Verdict × Place R
 advances m None sheet = (Err WrongPhase, None)

@@ -23,6 +23,7 @@ use Rattle.settlement.specs.declared.phase.Phase.{Phase}
 use Rattle.settlement.specs.declared.phase.Phase.the-variants.{Ahead, Near, After}
 use Rattle.settlement.specs.Positions.{stated-open, excess, as-far-out}
 use Rattle.settlement.specs.Sheets.{Statements, slots, sheet-size, words-per-slot}
+use Rattle.book.specs.declared.answers.Submitted.{Submitted}
 use Rattle.book.specs.declared.sender.Sender.{Sender}
 use Rattle.book.specs.Cuts.{is-after, state-if, sheet-if}
 use Rattle.book.specs.Queries.{answer-if, day-check, group-check}
@@ -174,3 +175,8 @@ submitted s sheet form = (
   state-if (submit-check s sheet form) (state-with s (said form .group - 1) (said form .version) form) s,
   sheet-if (submit-check s sheet form) (sheet-after (size s) (day-quarters s) (said form .group - 1) form sheet) sheet,
 )
+
+-- the same answer as the code holds it
+abbrev pub submittedOf : Result Submitted Fault → Result (ℕ × Option ℕ) Fault
+submittedOf (Ok x) = Ok (x .beyond, x .first)
+submittedOf (Err e) = Err e

@@ -3,7 +3,8 @@ ghost use mathlib.Core.Path.{_≡_};
 ghost use mathlib.Core.List.{map};
 ghost use Rattle.std.specs.Options.{isSome};
 ghost use Rattle.std.specs.declared.option.Option.the-variants.{None};
-ghost use Rattle.book.specs.Calls.{advances, closes, asks-position, asks-trade, asks-standing, asks-total};
+ghost use Rattle.book.specs.Calls.{submits, advances, closes, asks-position, asks-trade, asks-standing, asks-total};
+ghost use Rattle.book.specs.Messages.{submittedOf};
 ghost use Rattle.book.specs.Opens.{held-in, opened-by};
 ghost use Rattle.book.specs.Queries.{standingOf, totalOf};
 ghost use Rattle.book.specs.Rows.{rowOf};
@@ -59,11 +60,13 @@ impl<R: StageRule> Book<R> {
     }
 
     /// Takes a message, or refuses it and changes nothing.
-    pub fn submit(&mut self, form: &[u8], sheet: &mut [u32]) -> Result<Submitted, Fault> {
+    pub fn submit(&mut self, form: &[u8], sheet: &mut [u32]) -> Result<Submitted, Fault>
+        ensures { λ r. ⌜ (submittedOf r, held-in (now (self .exit) .inner), now (sheet .exit)) ≡ submits (held-in (now (self .entry) .inner)) (now (sheet .entry)) (now (form .entry)) ⌝ }
+    {
         let Some(open) = &mut self.inner else {
             return Err(Fault::WrongPhase);
         };
-        open.ledger.submit(form, sheet)
+        open.submit(form, sheet)
     }
 
     /// Moves the phase of the day; the second advance of a day is its cut-off.

@@ -3,14 +3,16 @@ ghost use mathlib.Core.Path.{_≡_};
 ghost use lib.ListN.{length};
 ghost use Rattle.message.specs.Form.{said};
 ghost use Rattle.settlement.specs.Sheets.{sheet-size};
-ghost use Rattle.book.specs.Messages.{Read, Sends, Passes, series-check};
+ghost use Rattle.book.specs.Messages.{Read, Sends, Passes, series-check, submitted, submittedOf};
 ghost use Rattle.book.specs.States.{stateOf, size, day-quarters};
 use crate::answers::Submitted;
 use crate::ledger::Ledger;
+use crate::opened::Opened;
 use crate::sender::Sender;
 use forms::fault::Fault;
 use message::Header;
 use message::MessageReader;
+use stage::rule::StageRule;
 
 impl Ledger {
     /// Refuses a message of no group of the book, of another day, or of a version that is not the
@@ -61,12 +63,24 @@ impl Ledger {
     }
 
     /// Takes a message, or refuses it and changes nothing.
-    pub(crate) fn submit(&mut self, form: &[u8], sheet: &mut [u32]) -> Result<Submitted, Fault> {
+    pub(crate) fn submit(&mut self, form: &[u8], sheet: &mut [u32]) -> Result<Submitted, Fault>
+        ensures { λ r. ⌜ (submittedOf r, stateOf (now (self .exit)), now (sheet .exit)) ≡ submitted (stateOf (now (self .entry))) (now (sheet .entry)) (now (form .entry)) ⌝ }
+    {
         let reader = MessageReader::new(form, self.quarters());
         let Sender { own, version } = self.check_message(&reader, sheet)?;
         self.lay(&reader, own, sheet);
         let after = self.with_message(&reader, own, version);
         *self = after;
         Ok(after.beyond(own, sheet))
+    }
+}
+
+impl<R: StageRule> Opened<R> {
+    /// Takes a message, or refuses it and changes nothing.
+    pub(crate) fn submit(&mut self, form: &[u8], sheet: &mut [u32]) -> Result<Submitted, Fault>
+        ensures book { λ r. ⌜ (submittedOf r, stateOf (now (self .exit) .ledger), now (sheet .exit)) ≡ submitted (stateOf (now (self .entry) .ledger)) (now (sheet .entry)) (now (form .entry)) ⌝ }
+        ensures rule { λ _. ⌜ now (self .exit) .rule ≡ now (self .entry) .rule ⌝ }
+    {
+        self.ledger.submit(form, sheet)
     }
 }

@@ -5,7 +5,7 @@ ghost use Rattle.std.specs.declared.option.Option.the-variants.{Some};
 use std::fmt;
 
 /// What a refusal is about: the book, the whole form, one series of it, or one quarter hour.
-#[derive(Clone, Copy, PartialEq, Eq, Debug)]
+#[derive(Clone, Copy)]
 pub enum Level {
     Book,
     Message,
@@ -14,7 +14,7 @@ pub enum Level {
 }
 
 /// Why an input is refused. Places count from 1.
-#[derive(Clone, Copy, PartialEq, Eq, Debug)]
+#[derive(Clone, Copy)]
 pub enum Fault {
     /// The form is shorter than its header.
     ShortForm,
@@ -53,7 +53,7 @@ pub enum Fault {
 }
 
 /// A refusal as it is told: level, number, series and quarter hour. A place that does not apply is 0.
-#[derive(Clone, Copy, PartialEq, Eq, Debug)]
+#[derive(Clone, Copy)]
 pub struct Notice {
     pub level: Level,
     pub number: u8,

@@ -51,7 +51,11 @@ fn read_body<R: Read>(
 }
 
 /// Prints a reply: its line, or the result rows of a close.
-fn print<W: Write + Drop>(output: &mut BufWriter<W>, session: &Session, reply: Reply) -> io::Result<()> {
+fn print<W: Write + Drop>(
+    output: &mut BufWriter<W>,
+    session: &Session,
+    reply: Reply,
+) -> io::Result<()> {
     if let Reply::Closed = reply {
         for row in session.rows() {
             let row = *row;

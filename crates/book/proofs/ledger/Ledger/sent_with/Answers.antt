@@ -26,7 +26,7 @@ loop-number-again c =
     let is : c .is-some .result ≡ sent-in form (slot-at g n) = c .is-some .ensures ∙ ap isSome (c .find .ensures .value ∙ ap (place-of form) slot) in (
       length-set xs (c .place .result) (c .is-some .result) ∙ c .loop-number .inv .0,
       flags-more g (c .args .own) form (c .args .self .now .sent) n (c .place .result) xs (c .is-some .result) below (c .place .ensures .value)
-      (omega (arith, c .place .ensures .flag, c .loop-number .inv .0)) is (c .loop-number .inv .1),
+          (omega (arith, c .place .ensures .flag, c .loop-number .inv .0)) is (c .loop-number .inv .1),
     )
 
 pub returns : need.returns
