@@ -1,37 +1,51 @@
--- The line of a reply: its fields with one blank between.
-use mathlib.Core.List.{List, [], _++_}
+-- What a frame is answered, and the line of each reply: its fields with one blank between.
 use mathlib.Core.Bool.{Bool, true, false}
-use mathlib.Core.Path.{_≡_}
+use mathlib.Core.List.{List, [], _++_}
 use Prim.Native.Nat.{ℕ}
 use lib.Chars.{codes}
 use Rattle.std.specs.Options.{valueOr}
-use Rattle.std.specs.Written.{decimal}
+use Rattle.std.specs.declared.option.Option.{Option}
 use Rattle.std.specs.declared.result.Result.{Result}
 use Rattle.std.specs.declared.result.Result.the-variants.{Ok, Err}
+use Rattle.std.specs.Written.{decimal}
 use Rattle.forms.specs.declared.fault.Fault.{Fault}
 use Rattle.forms.specs.Faults.{noticeOf, shownOf}
 use Rattle.session.specs.declared.reply.Reply.{Reply}
 use Rattle.session.specs.declared.reply.Reply.the-variants.{Stop, Refused, Done, Taken, Closed}
 
-abbrev pub is-stop : Reply → Bool
-is-stop Stop = true
-is-stop (Refused fault) = false
-is-stop Done = false
-is-stop (Taken answer) = false
-is-stop Closed = false
+-- the session ends; a fault; accepted; an accepted message with its count and first quarter hour; an accepted close, whose rows follow
+pub data Told : Type 0 where
+  stop : Told
+  refused : Fault → Told
+  done : Told
+  taken : ℕ → Option ℕ → Told
+  closed : Told
 
-abbrev pub shown-reply : Reply → List ℕ
-shown-reply Stop = codes "STOP"
-shown-reply (Refused fault) = codes "REFUSED " ++ shownOf (noticeOf fault)
-shown-reply Done = codes "OK"
-shown-reply (Taken answer) = codes "OK " ++ (decimal (answer .beyond) ++ (codes " " ++ decimal (valueOr (answer .first) 0)))
-shown-reply Closed = []
+-- the same as the code holds it
+abbrev pub toldBy : Reply → Told
+toldBy Stop = stop
+toldBy (Refused fault) = refused fault
+toldBy Done = done
+toldBy (Taken answer) = taken (answer .beyond) (answer .first)
+toldBy Closed = closed
 
--- the reply is Stop where the session stops, and nowhere else
-abbrev pub StopsWhere : Bool → Reply → Type 0
-StopsWhere stopped reply = is-stop reply ≡ stopped
+-- the line; a close has none of its own
+abbrev pub line : Told → List ℕ
+line stop = codes "STOP"
+line (refused fault) = codes "REFUSED " ++ shownOf (noticeOf fault)
+line done = codes "OK"
+line (taken count first) = codes "OK " ++ (decimal count ++ (codes " " ++ decimal (valueOr first 0)))
+line closed = []
 
--- an answer with nothing to tell, or a fault
-abbrev pub toldOf : Result (Unit {0}) Fault → Reply
-toldOf (Ok _) = Done
-toldOf (Err e) = Refused e
+-- a plain answer, and that of a message and of a close
+abbrev pub plainly : Result (Unit {0}) Fault → Told
+plainly (Ok _) = done
+plainly (Err e) = refused e
+
+abbrev pub message-told : Result (ℕ × Option ℕ) Fault → Told
+message-told (Ok x) = taken (x .0) (x .1)
+message-told (Err e) = refused e
+
+abbrev pub close-told : Result (Unit {0}) Fault → Told
+close-told (Ok _) = closed
+close-told (Err e) = refused e

@@ -1,5 +1,5 @@
 //! What a frame is answered.
-ghost use Rattle.session.specs.Replies.{shown-reply};
+ghost use Rattle.session.specs.Replies.{line, toldBy};
 ghost use Rattle.std.specs.declared.option.Option.the-variants.{Some};
 use book::answers::Submitted;
 use forms::fault::Fault;
@@ -22,7 +22,7 @@ pub enum Reply {
 
 /// The reply's line; a close has none of its own.
 pub impl fmt::Display for Reply as ReplyDisplay {
-    ghost shown = { λ r. Some (shown-reply r) };
+    ghost shown = { λ r. Some (line (toldBy r)) };
 
     fn fmt<W: fmt::Write>(&self, f: &mut fmt::Formatter<W>) -> fmt::Result {
         match self {
