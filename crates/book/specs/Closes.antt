@@ -14,9 +14,8 @@ use Rattle.forms.specs.Closings.{ClosingFormed, closing-sizes, closing-check, f
 use Rattle.stage.specs.Marked.{onDay}
 use Rattle.settlement.specs.declared.phase.Phase.{Phase}
 use Rattle.settlement.specs.declared.phase.Phase.the-variants.{Ahead}
-use Rattle.settlement.specs.Amounts.{imbalance-cost, to-cents}
+use Rattle.settlement.specs.Amounts.{imbalance-cost, day-cost, balance-amount}
 use Rattle.settlement.specs.Positions.{net-purchases}
-use Rattle.settlement.specs.Sums.{sumℤ}
 use Rattle.book.specs.Cuts.{is-after, state-if}
 use Rattle.book.specs.Rows.{Row}
 use Rattle.book.specs.Queries.{day-check}
@@ -40,13 +39,17 @@ quarter-today s sheet form a t =
     imbalance-cost (net-purchases (statements s sheet) (size s) t a +ℤ feed-in (day-quarters s) form a t)
     (long-price (size s) (day-quarters s) form t) (short-price (size s) (day-quarters s) form t)
 
--- what a group's imbalances of the first n quarter hours of the current day cost, by the closing form
+-- what a group's imbalances of the first n quarter hours of the current day cost
 unfoldable pub cost-today : State → List ℕ → List ℕ → ℕ → ℕ → ℤ
-cost-today s sheet form a n = sumℤ (quarter-today s sheet form a) n
+cost-today s sheet form a n =
+    day-cost (statements s sheet) (size s) a (feed-in (day-quarters s) form a)
+    (long-price (size s) (day-quarters s) form) (short-price (size s) (day-quarters s) form) n
 
 -- the balance amount of the current day
 unfoldable pub balance-today : State → List ℕ → List ℕ → ℕ → ℤ
-balance-today s sheet form a = to-cents (cost-today s sheet form a (day-quarters s))
+balance-today s sheet form a =
+    balance-amount (statements s sheet) (size s) a (feed-in (day-quarters s) form a)
+    (long-price (size s) (day-quarters s) form) (short-price (size s) (day-quarters s) form) (day-quarters s)
 
 -- the result row of a group: mark, stage and penalty as fixed at the cut-off, and a balance amount
 abbrev pub row-with : (List Bool → ℕ) → State → ℕ → ℤ → Row

@@ -19,7 +19,7 @@ use Rattle.book.specs.Kept.{cut-offs}
 use Rattle.book.specs.Sheets.{sheet-fits}
 use Rattle.book.specs.States.{State, size, figures, kept, day-quarters, year-over, statements}
 
--- what the checks passed, or their fault
+-- the answer where the checks have passed, else their fault
 abbrev pub answer-if : {A : Type 0} → Verdict → A → Result A Fault
 answer-if (Ok _) x = Ok x
 answer-if (Err e) x = Err e

@@ -12,7 +12,7 @@ ghost use Rattle.message.specs.Form.{Formed};
 ghost use Rattle.settlement.specs.Positions.{stated-with, stated-open, excess, as-far-out};
 ghost use Rattle.settlement.specs.Sheets.{sheet-size};
 ghost use Rattle.book.specs.Messages.{Read, by-message, grows-at, each-growth, growth-check};
-ghost use Rattle.book.specs.States.{stateOf, size, figures, day-quarters};
+ghost use Rattle.book.specs.States.{stateOf, size, day-quarters};
 use crate::ledger::Ledger;
 use forms::fault::Fault;
 use forms::group::Group;

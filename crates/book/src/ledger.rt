@@ -11,7 +11,7 @@ use settlement::phase::Phase;
 /// The presence flags: one for each slot of 16 groups.
 pub const FLAGS: usize = 560;
 
-/// The accounts of that many groups.
+/// The accounts of 16 groups.
 pub const ACCOUNTS: usize = 16;
 
 /// The day and phase, the slots sent today, and what is kept for each group.

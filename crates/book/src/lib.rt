@@ -18,3 +18,4 @@ pub mod slots;
 pub mod submit;
 pub mod today;
 pub mod whole_sheet;
+pub mod worked_figures;

@@ -7,7 +7,7 @@ use forms::bounds::POWER_BOUND;
 use settlement::sheet::sheet_size;
 
 /// Whether no word is above the bound on powers, in one plain pass.
-pub fn all_powers(words: &[u32]) -> bool
+pub(crate) fn all_powers(words: &[u32]) -> bool
     ensures { λ r. ⌜ r ≡ all-powers (now (words .entry)) ⌝ }
 {
     let mut largest: u32 = 0;
@@ -18,7 +18,7 @@ pub fn all_powers(words: &[u32]) -> bool
 }
 
 /// Whether the sheet has the length for so many groups, and no word above the bound on powers.
-pub fn sheet_fits(groups: usize, sheet: &[u32]) -> bool
+pub(crate) fn sheet_fits(groups: usize, sheet: &[u32]) -> bool
     requires { ⌜ groups ≤ 16 ⌝ }
     ensures { λ r. ⌜ r ≡ sheet-fits groups (now (sheet .entry)) ⌝ }
 {
@@ -26,7 +26,7 @@ pub fn sheet_fits(groups: usize, sheet: &[u32]) -> bool
 }
 
 /// Zero in each word.
-pub fn clear(sheet: &mut [u32])
+pub(crate) fn clear(sheet: &mut [u32])
     ensures { λ _. ⌜ now (sheet .exit) ≡ replicate (length (now (sheet .entry))) 0 ⌝ }
 {
     for word in sheet.iter_mut() {

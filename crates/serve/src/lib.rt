@@ -1,4 +1,5 @@
-//! Reads frames from standard input and prints what the session answers. It decides nothing.
+//! Reads frames from standard input and prints what the session answers. A frame that is cut short or
+//! announces too long a body stops the session here; every other decision is the session's.
 ghost use Prim.Native.Nat.{_≤_};
 ghost use lib.ListN.{length};
 ghost use Rattle.std.specs.Options.{Cases};

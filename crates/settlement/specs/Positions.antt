@@ -33,7 +33,7 @@ stated-check S g t a = stated-with S t a g -ℤ pos (S a cons t)
 abbrev pub confirmed-check : Statements → ℕ → ℕ → ℕ → ℤ
 confirmed-check S g t a = net-purchases S g t a -ℤ pos (S a cons t)
 
--- how far a check value lies below the production maximum (short) or above the pump depth (long)
+-- how far a check value lies below minus the production maximum (short) or above the pump depth (long)
 abbrev pub open-position : GroupFigures → ℤ → ℤ
 open-position f v =
     cond (ltZ v (negℤ (pos (f .prodMax)))) (v +ℤ pos (f .prodMax))

@@ -1,4 +1,4 @@
--- The bench figures of the two rules follow from the definitions.
+-- The worked figures of the two rules, by computation.
 use mathlib.Core.Path.{refl}
 use Rattle.stage.specs.Rules.{days-where, some-day, in-window, rolling, unmarked-after, gap-after, in-run, run-on, run}
 use Rattle.stage.specs.BenchStage.{StageFigures}

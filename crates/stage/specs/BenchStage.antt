@@ -1,4 +1,4 @@
--- The figures of the bench that the two rules have to give.
+-- The worked figures of the two rules.
 use mathlib.Core.Path.{_≡_}
 use mathlib.Core.Bool.{Bool, false, _||_}
 use mathlib.Core.List.{List, [], _∷_, map}

@@ -18,7 +18,7 @@ pub loop-t-again : need.loop-t-again
 loop-t-again c = search (needs, cost-more)
 
 pub returns : need.returns
-unfolding balance-today
+unfolding balance-today cost-today
 returns c =
     let s : State = stateOf (c .args .self .now) in
     let cost = cost-today s (c .args .sheet .now) (c .args .form .now .bytes .now) (c .args .a) in
