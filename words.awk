@@ -18,12 +18,13 @@ BEGIN {
   why[14] = "trades out to a group and in from it are both above 0"
   why[15] = "after the cut-off the open position moves farther out beyond its limit"
   why[16] = "a group row is unlawful"
-  why[17] = "a tariff row or the rule form is unlawful"
 }
 function say(text) { printf "%-28s %s\n", $0, text }
-$1 == "STOP" { say("the session ends here: a frame was cut short, too long, out of turn or of no known letter"); next }
+$1 == "STOP" { say("the session ends here: a frame was cut short, too long, out of turn, of no known letter, or opens a book for 9 to 16 groups"); next }
 $1 == "REFUSED" {
-  text = "refused, nothing has changed: " why[$3] " (about " level[$2]
+  reason = why[$3]
+  if ($3 == 17) reason = $4 > 0 ? "a tariff row is unlawful" : "the rule form is unlawful"
+  text = "refused, nothing has changed: " reason " (about " level[$2]
   if ($4 > 0) text = text ", series " $4
   if ($5 > 0) text = text ", quarter hour " $5
   say(text ")"); next
