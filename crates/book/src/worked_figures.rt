@@ -7,5 +7,4 @@ ghost use Rattle.stage.specs.BenchStage.{StageFigures};
 pub fn worked_figures()
     ensures stages { λ _. ⌜ StageFigures ⌝ }
     ensures amounts { λ _. ⌜ SettlementFigures ⌝ }
-{
-}
+{}
