@@ -19,31 +19,16 @@ use Rattle.forms.specs.Slots.{Slot, out-to, in-from, cons, prod, pump, kindOf, 
 use Rattle.message.specs.Places.{first-of, or-at, place-of, sent-in, stated}
 use Rattle.message.proofs.Stated.{value-missing}
 use Rattle.settlement.specs.Positions.{stated-with, stated-open, excess}
-use Rattle.settlement.specs.Sheets.{Statements, Within, slots, slot-number, slot-place, sheet-size, on-sheet}
+use Rattle.settlement.specs.Sheets.{Statements, Within, slots, slot-number, slot-at, slot-place, sheet-size, on-sheet}
 use Rattle.settlement.specs.Sums.{sumℤ}
-use Rattle.settlement.proofs.Places.{number-below, place-below, on-sheet-sent, on-sheet-unsent}
+use Rattle.settlement.proofs.Places.{number-below, place-below, slot-again, on-sheet-sent, on-sheet-unsent}
 use Rattle.settlement.proofs.Sums.{sumℤ-same}
-use Rattle.book.specs.Messages.{slot-at, owns, own-slot, sent-after, word-after, sheet-after, flags-after, by-message, count-where, state-with, beyond-now, beyond-at}
+use Rattle.book.specs.Messages.{owns, own-slot, sent-after, word-after, sheet-after, flags-after, by-message, count-where, state-with, beyond-now, beyond-at}
 use Rattle.book.specs.States.{State, size, figures, today, day-quarters}
 use Rattle.book.proofs.Days.{quarters-fit}
 use Rattle.book.proofs.ByMessage.{by-sender}
 use Rattle.book.proofs.Laying.{word-own}
 use Rattle.book.proofs.Flagging.{flag-own}
-
--- the number of a slot, and the slot of that number
-pub slot-again : (g : ℕ) (s : Slot) → Within g s → slot-at g (slot-number g s) ≡ s
-slot-again g (out-to b) l = cond-true _ _ _ (lt-ltb b g l)
-slot-again g (in-from b) l =
-    cond-false _ _ _ (le-ltb (g + b) g (omega arith)) ∙ cond-true _ _ _ (lt-ltb (g + b) (2 * g) (omega arith))
-    ∙ ap in-from (let d : g + b - g ≡ b = omega arith in d)
-slot-again g cons l =
-    cond-false _ _ _ (le-ltb (2 * g) g (omega arith)) ∙ cond-false _ _ _ (le-ltb (2 * g) (2 * g) (omega arith)) ∙ cond-true _ _ _ (eq-eqb (2 * g) (2 * g) refl)
-slot-again g prod l =
-    cond-false _ _ _ (le-ltb (2 * g + 1) g (omega arith)) ∙ cond-false _ _ _ (le-ltb (2 * g + 1) (2 * g) (omega arith))
-    ∙ cond-false _ _ _ (ne-eqb (2 * g + 1) (2 * g) (λ e. omega arith)) ∙ cond-true _ _ _ (eq-eqb (2 * g + 1) (2 * g + 1) refl)
-slot-again g pump l =
-    cond-false _ _ _ (le-ltb (2 * g + 2) g (omega arith)) ∙ cond-false _ _ _ (le-ltb (2 * g + 2) (2 * g) (omega arith))
-    ∙ cond-false _ _ _ (ne-eqb (2 * g + 2) (2 * g) (λ e. omega arith)) ∙ cond-false _ _ _ (ne-eqb (2 * g + 2) (2 * g + 1) (λ e. omega arith))
 
 -- a slot that the message does not have states 0
 missing-zero : (q : ℕ) (form : List ℕ) (s : Slot) (t : ℕ) → sent-in form s ≡ false → stated q form s t ≡ 0

@@ -13,18 +13,18 @@ use Rattle.std.proofs.shelf.Counted.{fill-by-all}
 use Rattle.std.proofs.shelf.Lists.{getD-set-same, getD-set-other}
 use Rattle.std.proofs.shelf.Tests.{cases-eq, cases-lt, lt-ltb, le-ltb, le-leb, lt-leb, and-from, and-left, and-right, cond-true, cond-false}
 use Rattle.message.specs.Places.{sent-in}
-use Rattle.settlement.specs.Sheets.{slots}
-use Rattle.book.specs.Messages.{slot-at, owns, own-slot, sent-after, flags-after}
+use Rattle.settlement.specs.Sheets.{slots, slot-at}
+use Rattle.book.specs.Messages.{owns, own-slot, sent-after, flags-after}
 
 -- the flags once the first n slots of the sender are as the message leaves them
 unfoldable pub flags-laid : ℕ → ℕ → List ℕ → ℕ → List Bool → ℕ → Bool
 flags-laid g own form n sent k = cond (ltb k (own * slots g + n)) (sent-after g own form sent k) (getD sent k false)
 
 module _ (g own : ℕ) (form : List ℕ) (sent : List Bool) where
-  flag-below : (k : ℕ) → k < own * slots g → sent-after g own form sent k ≡ getD sent k false
+  pub flag-below : (k : ℕ) → k < own * slots g → sent-after g own form sent k ≡ getD sent k false
   flag-below k l = cond-false _ _ _ (and-left _ _ (lt-leb (own * slots g) k l))
 
-  flag-past : (k : ℕ) → (own + 1) * slots g ≤ k → sent-after g own form sent k ≡ getD sent k false
+  pub flag-past : (k : ℕ) → (own + 1) * slots g ≤ k → sent-after g own form sent k ≡ getD sent k false
   flag-past k l = cond-false _ _ _ (and-right _ _ (le-ltb k ((own + 1) * slots g) l))
 
   pub flag-own : (n k : ℕ) → n < slots g → k ≡ own * slots g + n → sent-after g own form sent k ≡ sent-in form (slot-at g n)

@@ -18,8 +18,8 @@ use Rattle.forms.specs.Slots.{kindOf, counterOf}
 use Rattle.message.specs.Form.{value-at}
 use Rattle.message.specs.Places.{place-of, sent-in, stated}
 use Rattle.message.proofs.Stated.{value-found}
-use Rattle.settlement.specs.Sheets.{slots}
-use Rattle.book.specs.Messages.{series-laid, slot-at, owns, own-slot, word-after, sheet-after}
+use Rattle.settlement.specs.Sheets.{slots, slot-at}
+use Rattle.book.specs.Messages.{series-laid, owns, own-slot, word-after, sheet-after}
 
 module _ (q : ℕ) (form : List ℕ) (i at : ℕ) (sheet : List ℕ) where
   laid-in : (n k : ℕ) → at ≤ k → k < at + n → series-laid q form i at n sheet k ≡ value-at q form i (k - at)
@@ -65,10 +65,10 @@ slots-laid g q own form n sheet k = cond (ltb (k / 96) (own * slots g + n)) (wor
 
 module _ (g q own : ℕ) (form sheet : List ℕ) where
   -- a word of another group's slots stays
-  word-below : (k : ℕ) → k / 96 < own * slots g → word-after g q own form sheet k ≡ getD sheet k 0
+  pub word-below : (k : ℕ) → k / 96 < own * slots g → word-after g q own form sheet k ≡ getD sheet k 0
   word-below k l = cond-false _ _ _ (and-left _ _ (and-left _ _ (lt-leb (own * slots g) (k / 96) l)))
 
-  word-past : (k : ℕ) → (own + 1) * slots g ≤ k / 96 → word-after g q own form sheet k ≡ getD sheet k 0
+  pub word-past : (k : ℕ) → (own + 1) * slots g ≤ k / 96 → word-after g q own form sheet k ≡ getD sheet k 0
   word-past k l = cond-false _ _ _ (and-left _ _ (and-right _ _ (le-ltb (k / 96) ((own + 1) * slots g) l)))
 
   word-late : (k : ℕ) → q ≤ k % 96 → word-after g q own form sheet k ≡ getD sheet k 0

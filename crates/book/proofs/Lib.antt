@@ -7,6 +7,7 @@ pub mod Counting
 pub mod Days
 pub mod Flagging
 pub mod Laying
+pub mod Meaning
 pub mod Powers
 pub mod RowLists
 pub mod Submitting

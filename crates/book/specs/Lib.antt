@@ -2,6 +2,7 @@ pub mod Calls
 pub mod Closes
 pub mod Cuts
 pub mod Kept
+pub mod Meant
 pub mod Messages
 pub mod Opens
 pub mod Queries

@@ -22,7 +22,7 @@ use Rattle.message.specs.Places.{first-of, sent-in, stated}
 use Rattle.settlement.specs.declared.phase.Phase.{Phase}
 use Rattle.settlement.specs.declared.phase.Phase.the-variants.{Ahead, Near, After}
 use Rattle.settlement.specs.Positions.{stated-open, excess, as-far-out}
-use Rattle.settlement.specs.Sheets.{Statements, slots, sheet-size, words-per-slot}
+use Rattle.settlement.specs.Sheets.{Statements, slots, slot-at, sheet-size, words-per-slot}
 use Rattle.book.specs.declared.answers.Submitted.{Submitted}
 use Rattle.book.specs.declared.sender.Sender.{Sender}
 use Rattle.book.specs.Cuts.{is-after, state-if, sheet-if}
@@ -33,10 +33,6 @@ use Rattle.book.specs.States.{State, GroupState, size, figures, kept, today, d
 unfoldable pub count-where : (ℕ → Bool) → ℕ → ℕ
 count-where p zero = 0
 count-where p (suc n) = count-where p n + cond (p n) 1 0
-
--- the slot of a number among a group's slots
-abbrev pub slot-at : ℕ → ℕ → Slot
-slot-at g k = cond (ltb k g) (out-to k) (cond (ltb k (2 * g)) (in-from (k - g)) (cond (eqb k (2 * g)) cons (cond (eqb k (2 * g + 1)) prod pump)))
 
 -- a message by itself: what the group that sends it says, and zero of every other
 unfoldable pub by-message : ℕ → ℕ → List ℕ → Statements

@@ -10,6 +10,7 @@ pub mod group_account;
 pub mod growth;
 pub mod lay;
 pub mod ledger;
+pub mod meant;
 pub mod opened;
 pub mod queries;
 pub mod result_row;

@@ -2,8 +2,7 @@
 ghost use mathlib.Core.Path.{_≡_};
 ghost use Prim.Native.Nat.{_<_, _≤_};
 ghost use Rattle.forms.specs.Slots.{slotOf};
-ghost use Rattle.settlement.specs.Sheets.{slots};
-ghost use Rattle.book.specs.Messages.{slot-at};
+ghost use Rattle.settlement.specs.Sheets.{slots, slot-at};
 use forms::slot::Slot;
 
 /// The slot of a number among a group's slots.

@@ -9,13 +9,14 @@ use Rattle.std.proofs.shelf.Ways.{tells}
 use Rattle.std.specs.declared.option.Option.{Option}
 use Rattle.std.specs.declared.option.Option.the-variants.{Some, None}
 use Rattle.std.specs.declared.result.Result.the-variants.{Ok}
+use Rattle.forms.specs.Bounds.{power-bound}
 use Rattle.forms.specs.Checks.{Verdict, andThen}
 use Rattle.forms.specs.Slots.{Slot, out-to, in-from, kindOf, counterOf}
 use Rattle.forms.proofs.Firsts.{each-passed, andThen-left, andThen-right}
 use Rattle.message.specs.Form.{series-count, value-at}
 use Rattle.message.specs.Told.{is-forecast}
 use Rattle.message.specs.Places.{place-under, place-of, value-under, stated}
-use Rattle.message.specs.Values.{in-series, in-message, power-bound, range-check, forecast-check, opposed-check, values-check}
+use Rattle.message.specs.Values.{in-series, in-message, range-check, forecast-check, opposed-check, values-check}
 use Rattle.message.proofs.Stated.{value-found, value-missing, found-under}
 
 -- a check over the message that passed has passed at each series and quarter hour

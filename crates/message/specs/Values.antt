@@ -3,6 +3,7 @@ use mathlib.Core.List.{List}
 use mathlib.Core.Bool.{Bool, not, _&&_}
 use Prim.Native.Nat.{ℕ, _+_}
 use lib.Dec.{eqb, ltb}
+use Rattle.forms.specs.Bounds.{power-bound}
 use Rattle.forms.specs.Checks.{Verdict, andThen, refuse-if, each-of}
 use Rattle.forms.specs.declared.fault.Fault.the-variants.{OutOfRange, UnmeteredForecast, OpposedTrades}
 use Rattle.message.specs.Form.{series-count, kind-at, counter-at, value-at}
@@ -16,10 +17,6 @@ in-series q check i = each-of (check i) q
 -- and over the whole message, series by series
 abbrev pub in-message : ℕ → List ℕ → (ℕ → ℕ → Verdict) → Verdict
 in-message q s check = each-of (in-series q check) (series-count s)
-
--- no power is above this
-abbrev pub power-bound : ℕ
-power-bound = 10000000
 
 -- No value is above the bound.
 abbrev pub range-check : ℕ → List ℕ → ℕ → ℕ → Verdict

@@ -7,10 +7,8 @@ ghost use Rattle.message.specs.Values.{in-series, in-message, range-check, for
 use crate::Head;
 use crate::MessageReader;
 use crate::place;
+use forms::bounds::POWER_BOUND;
 use forms::fault::Fault;
-
-/// The highest power, in kW.
-pub const POWER_BOUND: u32 = 10_000_000;
 
 /// The kind of a trade out.
 const OUT: u8 = 1;

@@ -9,7 +9,7 @@ use lib.ListN.{getD}
 use Rattle.std.proofs.shelf.Bits.{mul-add-lt, div-mul-add, mod-mul-add}
 use Rattle.std.proofs.shelf.Ways.{tells}
 use Rattle.forms.specs.Slots.{Slot, out-to, in-from, cons, prod, pump}
-use Rattle.settlement.specs.Sheets.{words-per-slot, slots, slot-number, slot-place, Within, SlotsApart, on-sheet}
+use Rattle.settlement.specs.Sheets.{words-per-slot, slots, slot-number, slot-at, slot-place, Within, SlotsApart, on-sheet}
 
 pub number-below : (g : ℕ) (s : Slot) → Within g s → slot-number g s < slots g
 number-below g (out-to b) h = omega arith
@@ -21,13 +21,8 @@ number-below g pump h = omega arith
 pub place-below : (g a : ℕ) (s : Slot) → a < g → Within g s → slot-place g a s < g * slots g
 place-below g a s l h = omega (arith, mul-add-lt a (slots g) (slot-number g s) g l (number-below g s h))
 
--- the slot at a number
-abbrev slot-at : ℕ → ℕ → Slot
-slot-at g n =
-    cond (ltb n g) (out-to n)
-    (cond (ltb n (2 * g)) (in-from (n - g)) (cond (eqb n (2 * g)) cons (cond (eqb n (2 * g + 1)) prod pump)))
-
-slot-again : (g : ℕ) (s : Slot) → Within g s → slot-at g (slot-number g s) ≡ s
+-- the slot of a slot's number
+pub slot-again : (g : ℕ) (s : Slot) → Within g s → slot-at g (slot-number g s) ≡ s
 slot-again g (out-to b) h = grind (arith, tells)
 slot-again g (in-from b) h = grind (arith, tells)
 slot-again g cons h = grind (arith, tells)

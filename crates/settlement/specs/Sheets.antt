@@ -2,7 +2,8 @@
 use mathlib.Core.Path.{_≡_}
 use mathlib.Core.List.{List}
 use mathlib.Core.Bool.{Bool, false, cond}
-use Prim.Native.Nat.{ℕ, _+_, _*_, _<_, _≤_}
+use Prim.Native.Nat.{ℕ, _+_, _-_, _*_, _<_, _≤_}
+use lib.Dec.{ltb, eqb}
 use lib.ListN.{length, getD}
 use Rattle.std.specs.Options.{valueOr}
 use Rattle.std.specs.declared.option.Option.{Option}
@@ -27,6 +28,12 @@ slot-number g (in-from b) = g + b
 slot-number g cons = 2 * g
 slot-number g prod = 2 * g + 1
 slot-number g pump = 2 * g + 2
+
+-- the slot of a number among a group's slots
+abbrev pub slot-at : ℕ → ℕ → Slot
+slot-at g n =
+    cond (ltb n g) (out-to n)
+    (cond (ltb n (2 * g)) (in-from (n - g)) (cond (eqb n (2 * g)) cons (cond (eqb n (2 * g + 1)) prod pump)))
 
 -- a slot that is there: the group it names is one of the g
 abbrev pub Within : ℕ → Slot → Type 0

@@ -5,8 +5,8 @@ use borrow.Author.Needs.{needs}
 use lib.ListN.{length, getD}
 use Rattle.std.specs.declared.option.Option.the-variants.{Some, None}
 use Rattle.message.specs.Places.{place-of}
-use Rattle.settlement.specs.Sheets.{slots}
-use Rattle.book.specs.Messages.{series-laid, slot-at}
+use Rattle.settlement.specs.Sheets.{slots, slot-at}
+use Rattle.book.specs.Messages.{series-laid}
 use Rattle.book.specs.States.{State, stateOf, size, day-quarters}
 use Rattle.book.proofs.Laying.{slots-laid, slots-none, slots-skip, slots-write, slots-all}
 use Rattle.book.proofs.ledger.Ledger.lay.Needs as need

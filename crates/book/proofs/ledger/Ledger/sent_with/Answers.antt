@@ -5,8 +5,7 @@ use lib.ListN.{length}
 use Rattle.std.proofs.shelf.Lists.{length-set}
 use Rattle.std.specs.Options.{isSome}
 use Rattle.message.specs.Places.{place-of, sent-in}
-use Rattle.settlement.specs.Sheets.{slots}
-use Rattle.book.specs.Messages.{slot-at}
+use Rattle.settlement.specs.Sheets.{slots, slot-at}
 use Rattle.book.specs.States.{State, stateOf, size}
 use Rattle.book.proofs.Flagging.{flags-laid, flags-none, flags-more, flags-all}
 use Rattle.book.proofs.ledger.Ledger.sent_with.Needs as need
