@@ -90,6 +90,9 @@ module _ (s : State) (sheet form : List ℕ) (accepted : submit-check s sheet fo
       (andThen-left (sender-check s (said form .group) (said form .day) (said form .version)) _
       (andThen-right (day-check s sheet) _ past-header)))
 
+  pub sender-named : 1 ≤ said form .group
+  sender-named = leb-true 1 (said form .group) (and-parts (leb 1 (said form .group)) (leb (said form .group) (size s)) sender-one .0)
+
   sender-there : said form .group - 1 < size s
   sender-there =
       let p = and-parts (leb 1 (said form .group)) (leb (said form .group) (size s)) sender-one in

@@ -47,7 +47,7 @@ cut-off m s sheet = record {
 abbrev pub in-phase : State → Phase → State
 in-phase s p = record { terms = s .terms; closed = s .closed; phase = p; sent = s .sent; groups = s .groups }
 
-abbrev next-phase : (List Bool → ℕ) → State → List ℕ → Phase → State
+abbrev pub next-phase : (List Bool → ℕ) → State → List ℕ → Phase → State
 next-phase m s sheet Ahead = in-phase s Near
 next-phase m s sheet Near = cut-off m s sheet
 next-phase m s sheet After = s

@@ -61,7 +61,7 @@ all-flags = 560
 abbrev pub size : State → ℕ
 size s = length (s .terms .groups)
 
-abbrev no-figures : GroupFigures
+abbrev pub no-figures : GroupFigures
 no-figures = record { metered = false; prodMax = 0; pumpDepth = 0; limits = record { ahead = 0; near = 0; after = 0 } }
 
 abbrev pub figures : State → ℕ → GroupFigures

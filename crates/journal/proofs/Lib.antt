@@ -1,0 +1,13 @@
+pub mod Advancing
+pub mod Answering
+pub mod Closing
+pub mod Counting
+pub mod Earlier
+pub mod Keeping
+pub mod Quiet
+pub mod Running
+pub mod Sending
+pub mod Whole
+pub mod Opening
+pub mod Outcomes
+pub mod Parts

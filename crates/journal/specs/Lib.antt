@@ -1,0 +1,4 @@
+pub mod Books
+pub mod Journals
+pub mod Reckoned
+pub mod Theorem
