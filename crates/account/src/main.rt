@@ -1,5 +1,7 @@
 //! The program `account`: a session on the standard streams. It names the theorem over whole
 //! journals of calls.
+#![tactic(auto)]
+
 use journal::nobody_bends;
 use serve::account::account;
 use std::io;

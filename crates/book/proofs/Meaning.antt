@@ -1,19 +1,20 @@
 -- What the outcome of a message means.
-use Rattle.std.proofs.Common.{◌≡◌, ℕ, ◌+◌, ◌-◌, ◌*◌, ◌/◌, ◌<◌, ◌≤◌, Bool, true, false, cond, eqb, leb, List, length, get_or, set, Some, None, Ok, Err, unwrap_or, sym, refl, ap, ◌∙◌, inl, inr, arith}
+use Rattle.std.proofs.Common.{◌≡◌, ℕ, ◌+◌, ◌-◌, ◌*◌, ◌/◌, ◌<◌, ◌≤◌, Bool, true, false, cond, ◌&&◌, eqb, ltb, leb, List, length, get_or, set, Some, None, Ok, Err, Result, unwrap_or, sym, refl, ap, ◌∙◌, inl, inr, add-mul, arith}
 use Rattle.std.proofs.lemmas.Nat.{mul-add-lt, mul-le}
 use Rattle.std.proofs.lemmas.List.FromFn.{get_or-map-range_with_len}
 use Rattle.std.proofs.lemmas.List.{get_or-set_same, get_or-set_other, get_or_past, length-set}
 use Rattle.std.proofs.lemmas.Bool.{cases_eq, cases_lt, eq-eqb, ne_eqb, eqb-true, leb-true, and_parts, cond-true, cond-false}
-use Rattle.std.specs.Result.{result_and}
-use Rattle.forms.specs.Checks.{Verdict, refuse_if, if_passed}
+use Rattle.forms.specs.Checks.{Verdict, and_then, refuse_if}
 use Rattle.forms.specs.Slots.{Slot}
 use Rattle.forms.specs.declared.fault.Fault.TheVariants.{WrongPhase, WrongBuffer, WrongGroup}
-use Rattle.forms.proofs.Firsts.{and_other_left, and_other_right, allowed}
+use Rattle.forms.proofs.Firsts.{and_then_left, and_then_right, allowed}
 use Rattle.message.specs.Form.{header_of, said}
+use Rattle.message.specs.Places.{stated}
 use Rattle.settlement.specs.Sheets.{Within, slots, slot_number, slot_place, sheet_size, on_sheet}
 use Rattle.settlement.proofs.Places.{number_below, place_below}
+use Rattle.book.specs.Cuts.{state_if}
 use Rattle.book.specs.Meant.{MessageStands, MessageFixesNothing}
-use Rattle.book.specs.Messages.{sent_after, word_after, sheet_after, flags_after, submit_check, sender_check, series_check, passed, with_version, state_with, beyond_count}
+use Rattle.book.specs.Messages.{sent_after, word_after, sheet_after, flags_after, submit_check, sender_check, series_check, passed, with_version, state_with, beyond_count, submitted}
 use Rattle.book.specs.Queries.{one_of, day_check, group_check}
 use Rattle.book.specs.Sheets.{sheet_fits, all_powers}
 use Rattle.book.specs.States.{State, GroupState, nothing_kept, size, kept, today, day_quarters, year_over, statements}
@@ -55,11 +56,11 @@ module _ (g q own : ℕ) (form sheet : List ℕ) (sent : List Bool) (a : ℕ) (s
 module _ (s : State) (sheet form : List ℕ) (accepted : submit_check s sheet form ≡ Ok tt) where
   abbrev after-header : Verdict
   after-header =
-      result_and (day_check s sheet)
-      (result_and (sender_check s (said form).group (said form).day (said form).version) (series_check s sheet ((said form).group - 1) form))
+      and_then (day_check s sheet)
+      (and_then (sender_check s (said form).group (said form).day (said form).version) (series_check s sheet ((said form).group - 1) form))
 
   past_header : after-header ≡ Ok tt
-  past_header = and_other_right (passed (header_of (day_quarters s) form)) after-header accepted
+  past_header = and_then_right (passed (header_of (day_quarters s) form)) after-header accepted
 
   -- the sheet fits, and the sender is one of the groups
   room_there : length sheet ≡ sheet_size (size s)
@@ -67,15 +68,15 @@ module _ (s : State) (sheet form : List ℕ) (accepted : submit_check s sheet fo
       eqb-true (length sheet) (sheet_size (size s))
       (and_parts (eqb (length sheet) (sheet_size (size s))) (all_powers sheet)
       (allowed (sheet_fits (size s) sheet) WrongBuffer
-      (and_other_right (refuse_if (year_over s) WrongPhase) _ (and_other_left (day_check s sheet) _ past_header)))
+      (and_then_right (refuse_if (year_over s) WrongPhase) _ (and_then_left (day_check s sheet) _ past_header)))
       ).0
 
   sender_one : one_of (size s) (said form).group ≡ true
   sender_one =
       allowed (one_of (size s) (said form).group) WrongGroup
-      (and_other_left (group_check s (said form).group) _
-      (and_other_left (sender_check s (said form).group (said form).day (said form).version) _
-      (and_other_right (day_check s sheet) _ past_header)))
+      (and_then_left (group_check s (said form).group) _
+      (and_then_left (sender_check s (said form).group (said form).day (said form).version) _
+      (and_then_right (day_check s sheet) _ past_header)))
 
   pub sender_named : 1 ≤ (said form).group
   sender_named = leb-true 1 (said form).group (and_parts (leb 1 (said form).group) (leb (said form).group (size s)) sender_one).0
@@ -113,7 +114,7 @@ alike_set p xs i a v d h =
     ]
 
 alike : {B : Type 0} (p : GroupState → B) (s : State) (own version : ℕ) (form : List ℕ) (a : ℕ) (v : Verdict)
-    → p (with_version (kept s own) version) ≡ p (kept s own) → p (kept (if_passed v (state_with s own version form) s) a) ≡ p (kept s a)
+    → p (with_version (kept s own) version) ≡ p (kept s own) → p (kept (state_if v (state_with s own version form) s) a) ≡ p (kept s a)
 alike p s own version form a (Ok x) h = alike_set p s.groups own a (with_version (kept s own) version) nothing_kept h
 alike p s own version form a (Err x) h = refl
 

@@ -3,11 +3,11 @@ use Rattle.std.proofs.Common.{◌≡◌, ℕ, ◌-◌, ◌<◌, ◌≤◌, min, 
 use Rattle.std.proofs.lemmas.List.{get_or_past, length-map}
 use Rattle.std.proofs.lemmas.Bool.{cases_lt}
 use Rattle.forms.specs.declared.group.TariffRow.{TariffRow}
-use Rattle.opening.specs.declared.terms.Opening.{Opening}
+use Rattle.forms.specs.declared.terms.Opening.{Opening}
 use Rattle.forms.specs.Figures.{RateFigures, rates_of}
-use Rattle.opening.specs.Openings.{terms_in}
-use Rattle.opening.proofs.OpeningLaws.{rows_in, row_in}
-use Rattle.amounts.specs.Amounts.{row_for}
+use Rattle.forms.specs.Openings.{terms_in}
+use Rattle.forms.proofs.OpeningLaws.{rows_in, row_in}
+use Rattle.settlement.specs.Amounts.{row_for}
 
 pub rate_within : (o : Opening) (i : ℕ) → (get_or (terms_in o).tariff i (record { fee = 0; rate = 0 })).rate ≤ 1000000
 rate_within o i =

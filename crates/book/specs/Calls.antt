@@ -1,13 +1,13 @@
 -- What each call makes of a place, empty or with a book. A call on an empty place is refused, ahead of every other test.
-use Rattle.std.specs.Prelude.{ℕ, Bool, List, ℤ, Some, None, Err, Option, Result}
+use Rattle.std.specs.Prelude.{ℕ, Bool, List, ℤ, Some, None, Ok, Err, Option, Result}
 use Rattle.forms.specs.declared.fault.Fault.{Fault}
 use Rattle.forms.specs.declared.fault.Fault.TheVariants.{WrongPhase}
 use Rattle.forms.specs.Checks.{Verdict}
 use Rattle.book.specs.Closes.{Lent, closed_by}
 use Rattle.book.specs.Cuts.{advanced}
-use Rattle.book.specs.Kept.{cut_offs}
 use Rattle.book.specs.Messages.{submitted}
 use Rattle.book.specs.Queries.{position_answer, trade_answer, standing_answer, total_answer}
+use Rattle.book.specs.Kept.{cut_offs}
 use Rattle.book.specs.States.{State, size}
 
 -- a place with its rule and its state, or an empty one

@@ -1,17 +1,18 @@
 -- What close does.
-use Rattle.std.specs.Prelude.{◌≡◌, ℕ, ◌+◌, Bool, false, not, List, map, length, replicate, ℤ, ◌+ℤ◌, Ok, ◌==◌}
+use Rattle.std.specs.Prelude.{◌≡◌, ℕ, ◌+◌, Bool, true, false, cond, not, ◌&&◌, List, [], ◌∷◌, ◌++◌, map, length, replicate, ℤ, ◌+ℤ◌, Ok, Err, ◌==◌}
 use Rattle.std.specs.List.{range_with_len}
 use Rattle.forms.specs.declared.fault.Fault.TheVariants.{WrongPhase, WrongBuffer}
-use Rattle.std.specs.Result.{result_and}
-use Rattle.forms.specs.Checks.{Verdict, refuse_if, if_passed}
-use Rattle.closing.specs.Closings.{ClosingFormed, closing_sizes, closing_check, feed_in, long_price, short_price}
+use Rattle.forms.specs.Checks.{Verdict, and_then, refuse_if}
+use Rattle.forms.specs.Closings.{ClosingFormed, closing_sizes, closing_check, feed_in, long_price, short_price}
 use Rattle.stage.specs.Marked.{on_day}
+use Rattle.settlement.specs.declared.phase.Phase.{Phase}
 use Rattle.settlement.specs.declared.phase.Phase.TheVariants.{Ahead}
-use Rattle.amounts.specs.Amounts.{imbalance_cost, day_cost, balance_amount}
-use Rattle.book.specs.Cuts.{is_after}
+use Rattle.settlement.specs.Amounts.{imbalance_cost, day_cost, balance_amount}
+use Rattle.settlement.specs.Positions.{net_purchases}
+use Rattle.book.specs.Cuts.{is_after, state_if}
 use Rattle.book.specs.Rows.{Row}
 use Rattle.book.specs.Queries.{day_check}
-use Rattle.book.specs.States.{State, GroupState, all_flags, size, kept, today, day_quarters, statements}
+use Rattle.book.specs.States.{State, GroupState, all_flags, size, kept, today, day_quarters, year_over, statements}
 
 -- What the caller lends a call.
 pub record Lent : Type 0 where
@@ -25,10 +26,10 @@ pub record Closing (s : State) (g q : ℕ) (form : List ℕ) : Type 0 where
   pub formed : ClosingFormed g q form
   pub lawful : closing_check g q form ≡ Ok tt
 
--- what net purchases of a group cost in a quarter hour of the current day, by the closing form
-unfoldable pub quarter_of : State → List ℕ → ℤ → ℕ → ℕ → ℤ
-quarter_of s form net a t =
-    imbalance_cost (net +ℤ feed_in (day_quarters s) form a t)
+-- what a group's imbalance of a quarter hour of the current day costs, by the closing form
+unfoldable pub quarter_today : State → List ℕ → List ℕ → ℕ → ℕ → ℤ
+quarter_today s sheet form a t =
+    imbalance_cost (net_purchases (statements s sheet) (size s) t a +ℤ feed_in (day_quarters s) form a t)
     (long_price (size s) (day_quarters s) form t) (short_price (size s) (day_quarters s) form t)
 
 -- what a group's imbalances of the first n quarter hours of the current day cost
@@ -80,16 +81,20 @@ day_rows m s sheet form = map (day_row m s sheet form) (range_with_len 0 (size s
 -- the tests of a closing form, in rising number; rows is how many result rows are lent
 abbrev pub close_check : State → List ℕ → ℕ → List ℕ → Verdict
 close_check s sheet rows form =
-    result_and (closing_sizes (size s) (day_quarters s) form)
-    (result_and (refuse_if (not (is_after s.phase)) WrongPhase)
-    (result_and (day_check s sheet)
-    (result_and (refuse_if (not (rows == size s)) WrongBuffer) (closing_check (size s) (day_quarters s) form))))
+    and_then (closing_sizes (size s) (day_quarters s) form)
+    (and_then (refuse_if (not (is_after s.phase)) WrongPhase)
+    (and_then (day_check s sheet)
+    (and_then (refuse_if (not (rows == size s)) WrongBuffer) (closing_check (size s) (day_quarters s) form))))
+
+abbrev pub lent_if : Verdict → Lent → Lent → Lent
+lent_if (Ok _) after before = after
+lent_if (Err e) after before = before
 
 -- what close answers, the state after it, and what it leaves in what was lent
 abbrev pub closed_by : (List Bool → ℕ) → State → Lent → List ℕ → Verdict × State × Lent
 closed_by m s lent form =
     let check = close_check s lent.sheet (length lent.rows) form in (
       check,
-      if_passed check (day_closed s (balance_today s lent.sheet form)) s,
-      if_passed check (record { sheet = replicate (length lent.sheet) 0; rows = day_rows m s lent.sheet form }) lent,
+      state_if check (day_closed s (balance_today s lent.sheet form)) s,
+      lent_if check (record { sheet = replicate (length lent.sheet) 0; rows = day_rows m s lent.sheet form }) lent,
     )

@@ -1,22 +1,22 @@
 -- What submit does.
-use Rattle.std.specs.Prelude.{◌≡◌, ℕ, zero, suc, ◌+◌, ◌-◌, ◌*◌, ◌/◌, ◌%◌, ◌<◌, Bool, false, cond, not, ◌&&◌, ◌||◌, List, map, length, is_some, Ok, Err, Option, Result, ◌==◌, nat_le, nat_lt, slice_index, slice_index_or, slice_set}
+use Rattle.std.specs.Prelude.{◌≡◌, ℕ, zero, suc, ◌+◌, ◌-◌, ◌*◌, ◌/◌, ◌%◌, ◌<◌, Bool, true, false, cond, not, ◌&&◌, ◌||◌, List, map, length, is_some, Some, None, Ok, Err, Option, Result, ◌==◌, nat_le, nat_lt, slice_index, slice_index_or, slice_set}
 use Rattle.std.specs.List.{range_with_len}
 use Rattle.std.specs.Option.{option_map}
 use Rattle.forms.specs.declared.fault.Fault.{Fault}
 use Rattle.forms.specs.declared.fault.Fault.TheVariants.{WrongDay, WrongVersion, MissingSeries, GrowingPosition}
-use Rattle.std.specs.Result.{result_and}
-use Rattle.forms.specs.Checks.{Verdict, refuse_if, each_of, if_passed}
-use Rattle.forms.specs.Slots.{Slot, cons, prod, pump}
+use Rattle.forms.specs.Checks.{Verdict, and_then, refuse_if, each_of}
+use Rattle.forms.specs.Slots.{Slot, out_to, in_from, cons, prod, pump}
 use Rattle.message.specs.Form.{Formed, header_of, said, value_at}
 use Rattle.message.specs.Heads.{heads_check}
 use Rattle.message.specs.Values.{values_check}
 use Rattle.message.specs.Places.{first_of, sent_in, stated}
-use Rattle.settlement.specs.declared.phase.Phase.TheVariants.{After}
+use Rattle.settlement.specs.declared.phase.Phase.{Phase}
+use Rattle.settlement.specs.declared.phase.Phase.TheVariants.{Ahead, Near, After}
 use Rattle.settlement.specs.Positions.{stated_open, excess, as_far_out}
 use Rattle.settlement.specs.Sheets.{Statements, slots, slot_at, sheet_size, words_per_slot}
 use Rattle.book.specs.declared.answers.Submitted.{Submitted}
 use Rattle.book.specs.declared.sender.Sender.{Sender}
-use Rattle.book.specs.Cuts.{is_after}
+use Rattle.book.specs.Cuts.{is_after, state_if, sheet_if}
 use Rattle.book.specs.Queries.{answer_if, day_check, group_check}
 use Rattle.book.specs.States.{State, GroupState, size, figures, kept, today, day_quarters, statements}
 
@@ -69,22 +69,22 @@ passed (Err e) = Err e
 -- The tests of a message, in rising number. First its group, day and version, then its series; own is the sender.
 abbrev pub sender_check : State → ℕ → ℕ → ℕ → Verdict
 sender_check s group day version =
-    result_and (group_check s group)
-    (result_and (refuse_if (not (day == today s)) WrongDay)
+    and_then (group_check s group)
+    (and_then (refuse_if (not (day == today s)) WrongDay)
     (refuse_if (not (version == (kept s (group - 1)).version + 1)) WrongVersion))
 
 abbrev pub series_check : State → List ℕ → ℕ → List ℕ → Verdict
 series_check s sheet own form =
-    result_and (heads_check (size s) own form)
-    (result_and (refuse_if (incomplete s own form) MissingSeries)
-    (result_and (values_check (day_quarters s) (figures s own).metered form)
+    and_then (heads_check (size s) own form)
+    (and_then (refuse_if (incomplete s own form) MissingSeries)
+    (and_then (values_check (day_quarters s) (figures s own).metered form)
     (growth_check s sheet own form)))
 
 abbrev pub submit_check : State → List ℕ → List ℕ → Verdict
 submit_check s sheet form =
-    result_and (passed (header_of (day_quarters s) form))
-    (result_and (day_check s sheet)
-    (result_and (sender_check s (said form).group (said form).day (said form).version) (series_check s sheet ((said form).group - 1) form)))
+    and_then (passed (header_of (day_quarters s) form))
+    (and_then (day_check s sheet)
+    (and_then (sender_check s (said form).group (said form).day (said form).version) (series_check s sheet ((said form).group - 1) form)))
 
 -- what the tests answer: the sender and the version, or the fault
 abbrev pub Sends : Result Sender Fault → State → ℕ → ℕ → ℕ → Type 0
@@ -159,8 +159,8 @@ beyond_count s own form =
 abbrev pub submitted : State → List ℕ → List ℕ → Result (ℕ × Option ℕ) Fault × State × List ℕ
 submitted s sheet form = (
   answer_if (submit_check s sheet form) (beyond_count s ((said form).group - 1) form),
-  if_passed (submit_check s sheet form) (state_with s ((said form).group - 1) (said form).version form) s,
-  if_passed (submit_check s sheet form) (sheet_after (size s) (day_quarters s) ((said form).group - 1) form sheet) sheet,
+  state_if (submit_check s sheet form) (state_with s ((said form).group - 1) (said form).version form) s,
+  sheet_if (submit_check s sheet form) (sheet_after (size s) (day_quarters s) ((said form).group - 1) form sheet) sheet,
 )
 
 -- the same answer as the code holds it

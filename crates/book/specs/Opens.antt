@@ -1,12 +1,12 @@
 -- What open does, and what a place holds.
-use Rattle.std.specs.Prelude.{ℕ, false, not, List, length, replicate, Some, None, Option}
+use Rattle.std.specs.Prelude.{ℕ, Bool, false, not, List, length, replicate, Some, None, Ok, Err, Option}
 use Rattle.forms.specs.declared.fault.Fault.TheVariants.{WrongBuffer}
-use Rattle.std.specs.Result.{result_and}
-use Rattle.forms.specs.Checks.{Verdict, refuse_if, if_passed}
+use Rattle.forms.specs.Checks.{Verdict, and_then, refuse_if}
 use Rattle.forms.specs.Figures.{Terms}
-use Rattle.opening.specs.Openings.{sizes_check, rows_check, groups_told, terms_of}
+use Rattle.forms.specs.Openings.{sizes_check, rows_check, groups_told, terms_of}
 use Rattle.settlement.specs.declared.phase.Phase.TheVariants.{Ahead}
 use Rattle.book.specs.declared.opened.Opened.{Opened}
+use Rattle.book.specs.Cuts.{sheet_if}
 use Rattle.book.specs.Sheets.{sheet_fits}
 use Rattle.book.specs.States.{State, all_flags, nothing_kept, state_of}
 
@@ -27,13 +27,17 @@ held_in (Some b) = Some (b.rule, state_of b.ledger)
 
 abbrev pub open_check : List ℕ → List ℕ → Verdict
 open_check form sheet =
-    result_and (sizes_check form)
-    (result_and (refuse_if (not (sheet_fits (groups_told form) sheet)) WrongBuffer) (rows_check form))
+    and_then (sizes_check form)
+    (and_then (refuse_if (not (sheet_fits (groups_told form) sheet)) WrongBuffer) (rows_check form))
+
+abbrev pub place_if : {R : Type 0} → Verdict → R → State → Option (R × State) → Option (R × State)
+place_if (Ok _) rule s before = Some (rule, s)
+place_if (Err e) rule s before = before
 
 -- what open answers, what the place holds then, and the sheet: zero everywhere
 abbrev pub opened_by : {R : Type 0} → Option (R × State) → R → List ℕ → List ℕ → Verdict × Option (R × State) × List ℕ
 opened_by place rule form sheet = (
   open_check form sheet,
-  if_passed (open_check form sheet) (Some (rule, new_book (terms_of form))) place,
-  if_passed (open_check form sheet) (replicate (length sheet) 0) sheet,
+  place_if (open_check form sheet) rule (new_book (terms_of form)) place,
+  sheet_if (open_check form sheet) (replicate (length sheet) 0) sheet,
 )

@@ -1,12 +1,12 @@
 -- What a book stands for. Groups and quarter hours count from 0, days from 1.
-use Rattle.std.specs.Prelude.{ℕ, ◌+◌, ◌*◌, Bool, false, List, [], map, length, take, ℤ, pos, nat_le, slice_index_or}
-use Rattle.forms.specs.Calendar.{year_days, quarters}
+use Rattle.std.specs.Prelude.{ℕ, ◌+◌, ◌*◌, Bool, true, false, cond, not, ◌&&◌, ◌||◌, List, [], map, length, take, ℤ, pos, nat_le, slice_index_or}
+use Rattle.forms.specs.Calendar.{days, quarters}
 use Rattle.forms.specs.Figures.{GroupFigures, Terms}
-use Rattle.opening.specs.Openings.{terms_in}
-use Rattle.forms.specs.Bounds.{most_groups}
+use Rattle.forms.specs.Openings.{terms_in}
 use Rattle.stage.specs.Marked.{marks_of}
 use Rattle.settlement.specs.declared.phase.Phase.{Phase}
-use Rattle.settlement.specs.Sheets.{Statements, on_sheet, slots}
+use Rattle.settlement.specs.declared.phase.Phase.TheVariants.{Ahead, Near, After}
+use Rattle.settlement.specs.Sheets.{Statements, on_sheet}
 use Rattle.book.specs.declared.group_account.GroupAccount.{GroupAccount}
 use Rattle.book.specs.declared.ledger.Ledger.{Ledger}
 
@@ -50,7 +50,7 @@ state_of l = record {
 
 -- the flags of the slots of 16 groups
 abbrev pub all_flags : ℕ
-all_flags = most_groups * slots most_groups
+all_flags = 560
 
 -- how many groups there are, and what the opening form says of one
 abbrev pub size : State → ℕ
@@ -78,7 +78,7 @@ day_quarters s = quarters (today s)
 
 -- all days are closed
 abbrev pub year_over : State → Bool
-year_over s = nat_le year_days s.closed
+year_over s = nat_le days s.closed
 
 -- what the groups have sent today, by the sheet as it is given
 abbrev pub statements : State → List ℕ → Statements

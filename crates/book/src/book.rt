@@ -12,7 +12,7 @@ use crate::opened::Opened;
 use crate::result_row::ResultRow;
 use crate::whole_sheet::{clear, sheet_fits};
 use forms::fault::Fault;
-use opening::OpeningReader;
+use forms::opening::OpeningReader;
 use stage::rule::StageRule;
 
 /// A place for a book: empty, or holding one that is open under a rule.
@@ -66,7 +66,7 @@ impl<R: StageRule> Book<R> {
 
     /// Moves the phase of the day; the second advance of a day is its cut-off.
     pub fn advance(&mut self, sheet: &[u32]) -> Result<(), Fault>
-        ensures { (result, held_in self.new.inner) ≡ advances meaning (held_in self.old.inner) sheet.now }
+        ensures { (result, held_in self.new.inner) ≡ advances R.meaning (held_in self.old.inner) sheet.now }
     {
         let Some(open) = &mut self.inner else {
             return Err(Fault::WrongPhase);
@@ -81,7 +81,7 @@ impl<R: StageRule> Book<R> {
         sheet: &mut [u32],
         rows: &mut [ResultRow],
     ) -> Result<(), Fault>
-        ensures { (result, held_in self.new.inner, record { sheet = sheet.exit.now; rows = map row_of rows.new }) ≡ closes meaning (held_in self.old.inner) (record { sheet = sheet.entry.now; rows = map row_of rows.old }) form.now }
+        ensures { (result, held_in self.new.inner, record { sheet = sheet.new; rows = map row_of rows.new }) ≡ closes R.meaning (held_in self.old.inner) (record { sheet = sheet.entry.now; rows = map row_of rows.old }) form.now }
     {
         let Some(open) = &mut self.inner else {
             return Err(Fault::WrongPhase);
@@ -117,7 +117,7 @@ impl<R: StageRule> Book<R> {
 
     /// A group's mark and stage on a day past its cut-off.
     pub fn standing(&self, group: u16, day: u16) -> Result<Standing, Fault>
-        ensures { standing_of result ≡ asks_standing meaning (held_in self.now.inner) group day }
+        ensures { standing_of result ≡ asks_standing R.meaning (held_in self.now.inner) group day }
     {
         let Some(open) = &self.inner else {
             return Err(Fault::WrongPhase);

@@ -1,11 +1,9 @@
 //! The close of a day.
-ghost use Rattle.std.specs.Prelude.{◌≡◌, ℕ, ◌+◌, ◌*◌, ◌^◌, ◌<◌, ◌≤◌, map, length, replicate, OnOk, slice_index, unsigned_abs};
-ghost use Rattle.closing.specs.Closings.{ClosingFormed};
-ghost use Rattle.forms.specs.Calendar.{year_days};
+ghost use Rattle.std.specs.Prelude.{◌≡◌, ℕ, ◌+◌, ◌*◌, ◌^◌, ◌<◌, ◌≤◌, map, length, replicate, pos, OnOk, slice_index, unsigned_abs};
+ghost use Rattle.forms.specs.Closings.{ClosingFormed};
 ghost use Rattle.settlement.specs.declared.phase.Phase.TheVariants.{After};
-ghost use Rattle.settlement.specs.Days.{day_net};
-ghost use Rattle.settlement.specs.Sheets.{sheet_size};
-ghost use Rattle.book.specs.Closes.{Closing, quarter_of, balance_today, row_with, day_rows, day_done, day_closed, close_check, closed_by};
+ghost use Rattle.settlement.specs.Sheets.{SheetOf, sheet_size};
+ghost use Rattle.book.specs.Closes.{Closing, quarter_today, balance_today, row_with, day_rows, day_done, day_closed, close_check, closed_by};
 ghost use Rattle.book.specs.Kept.{days_in, penalties_in, balance_in, most_balance};
 ghost use Rattle.book.specs.Rows.{row_of, amount_in, balance_in_row};
 ghost use Rattle.book.specs.States.{state_of, account_of, size, day_quarters};
@@ -16,26 +14,24 @@ use crate::ledger::Ledger;
 use crate::opened::Opened;
 use crate::result_row::ResultRow;
 use crate::whole_sheet::clear;
-use amounts::{quarter_cost, to_cents};
-use closing::ClosingReader;
+use forms::closing::ClosingReader;
 use forms::fault::Fault;
-use settlement::day::DayTrades;
+use settlement::amounts::to_cents;
 use settlement::phase::Phase;
 use stage::rule::StageRule;
 
 impl Ledger {
-    /// What a group's imbalance of a quarter hour costs, in 4000ths of a cent, by its trades of the
-    /// day.
-    fn quarter_cost(&self, trades: &DayTrades, form: &ClosingReader<'_>, a: usize, t: usize) -> i64
-        requires within { (a < size (state_of self.now)) × (t < day_quarters (state_of self.now)) }
+    /// What a group's imbalance of a quarter hour costs, in 4000ths of a cent.
+    fn quarter_cost(&self, sheet: &[u32], form: &ClosingReader<'_>, a: usize, t: usize) -> i64
+        requires sheet { (length sheet.now ≡ sheet_size (size (state_of self.now))) × ((a < size (state_of self.now)) × (t < day_quarters (state_of self.now))) }
         requires form { Closing (state_of self.now) form.now.groups form.now.quarters form.now.bytes.now }
-        ensures value { result ≡ quarter_of (state_of self.now) form.now.bytes.now (day_net trades.now.taken trades.now.given t) a t }
+        ensures value { result ≡ quarter_today (state_of self.now) sheet.now form.now.bytes.now a t }
         ensures bound { unsigned_abs result ≤ 68730000000000000 }
     {
         let feed = form.feed_in(a, t);
         let long = form.long_price(t);
         let short = form.short_price(t);
-        quarter_cost(trades.net(t), feed, long, short)
+        self.on(sheet).quarter_cost(a, t, feed, long, short)
     }
 
     /// A group's balance amount of the day, in cents: added over the day, divided once.
@@ -45,10 +41,9 @@ impl Ledger {
         ensures value { result ≡ balance_today (state_of self.now) sheet.now form.now.bytes.now a }
         ensures bound { unsigned_abs result < 2 ^ 52 }
     {
-        let trades = self.on(sheet).confirmed_trades(a);
         let mut cost: i64 = 0;
         for t in 0..self.quarters() as usize {
-            cost += self.quarter_cost(&trades, form, a, t);
+            cost += self.quarter_cost(sheet, form, a, t);
         }
         to_cents(cost)
     }
@@ -85,7 +80,7 @@ impl Ledger {
 /// A group's result row: mark, stage and penalty as they were fixed, and the balance amount.
 fn result_row<R: StageRule>(rule: &R, ledger: &Ledger, a: usize, balance: i64) -> ResultRow
     requires { a < size (state_of ledger.now) }
-    ensures { row_of result ≡ row_with (meaning rule.now) (state_of ledger.now) a balance }
+    ensures { row_of result ≡ row_with (R.meaning rule.now) (state_of ledger.now) a balance }
 {
     let account = ledger.account(a);
     let day = ledger.day();
@@ -110,7 +105,7 @@ fn fill_rows<R: StageRule>(
     requires sheet { length sheet.now ≡ sheet_size (size (state_of ledger.now)) }
     requires form { Closing (state_of ledger.now) form.now.groups form.now.quarters form.now.bytes.now }
     requires rows { length rows.old ≡ size (state_of ledger.now) }
-    ensures rows { map row_of rows.new ≡ day_rows (meaning rule.now) (state_of ledger.now) sheet.now form.now.bytes.now }
+    ensures rows { map row_of rows.new ≡ day_rows (R.meaning rule.now) (state_of ledger.now) sheet.now form.now.bytes.now }
     ensures bound { (k : ℕ) → slice_index (map amount_in rows.new) k ≤ most_balance }
 {
     for a in 0..ledger.groups() {
@@ -139,7 +134,7 @@ fn next_day(ledger: &Ledger, rows: &[ResultRow]) -> Ledger
 
 /// A group when its day is closed.
 fn day_done(account: &GroupAccount, amount: i64) -> GroupAccount
-    requires { (balance_in account.now ≤ year_days * most_balance) × (unsigned_abs amount ≤ most_balance) }
+    requires { (balance_in account.now ≤ 366 * most_balance) × (unsigned_abs amount ≤ most_balance) }
     ensures value { account_of result ≡ day_done (account_of account.now) amount }
     ensures days { days_in result ≡ days_in account.now }
     ensures penalties { penalties_in result ≡ penalties_in account.now }
@@ -164,7 +159,7 @@ impl<R: StageRule> Opened<R> {
         ensures book { state_of self.new.ledger ≡ day_closed (state_of self.old.ledger) (balance_today (state_of self.old.ledger) sheet.old form.now.bytes.now) }
         ensures rule { self.new.rule ≡ self.old.rule }
         ensures sheet { sheet.new ≡ replicate (length sheet.old) 0 }
-        ensures rows { map row_of rows.new ≡ day_rows (meaning self.old.rule) (state_of self.old.ledger) sheet.old form.now.bytes.now }
+        ensures rows { map row_of rows.new ≡ day_rows (R.meaning self.old.rule) (state_of self.old.ledger) sheet.old form.now.bytes.now }
     {
         fill_rows(&self.rule, &self.ledger, sheet, form, rows);
         self.ledger = next_day(&self.ledger, rows);
@@ -178,7 +173,7 @@ impl<R: StageRule> Opened<R> {
         sheet: &mut [u32],
         rows: &mut [ResultRow],
     ) -> Result<(), Fault>
-        ensures book { (result, state_of self.new.ledger, record { sheet = sheet.exit.now; rows = map row_of rows.new }) ≡ closed_by (meaning self.old.rule) (state_of self.old.ledger) (record { sheet = sheet.entry.now; rows = map row_of rows.old }) form.now }
+        ensures book { (result, state_of self.new.ledger, record { sheet = sheet.new; rows = map row_of rows.new }) ≡ closed_by (R.meaning self.old.rule) (state_of self.old.ledger) (record { sheet = sheet.entry.now; rows = map row_of rows.old }) form.now }
         ensures rule { self.new.rule ≡ self.old.rule }
     {
         let reader = self.ledger.closing(form);

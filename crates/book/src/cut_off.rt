@@ -1,8 +1,7 @@
 //! The second advance of a day, at which marks, stages and penalties are fixed.
 ghost use Rattle.std.specs.Prelude.{◌≡◌, ◌+◌, ◌*◌, ◌^◌, ◌<◌, ◌≤◌, length};
 ghost use Rattle.settlement.specs.declared.phase.Phase.TheVariants.{Ahead, Near};
-ghost use Rattle.opening.specs.Openings.{terms_in};
-ghost use Rattle.forms.specs.Calendar.{year_days};
+ghost use Rattle.forms.specs.Openings.{terms_in};
 ghost use Rattle.stage.specs.Marked.{marks_of};
 ghost use Rattle.settlement.specs.Sheets.{sheet_size};
 ghost use Rattle.book.specs.Cuts.{charged, cut_off, in_phase, advanced};
@@ -12,9 +11,9 @@ ghost use Rattle.book.specs.States.{state_of, size, account_of};
 use crate::group_account::GroupAccount;
 use crate::ledger::Ledger;
 use crate::opened::Opened;
-use amounts::{penalty, row_for};
 use forms::fault::Fault;
-use opening::terms::Opening;
+use forms::terms::Opening;
+use settlement::amounts::{penalty, row_for};
 use settlement::phase::Phase;
 use stage::rule::StageRule;
 
@@ -25,9 +24,9 @@ pub(crate) fn charge<R: StageRule>(
     account: &GroupAccount,
     energy: u64,
 ) -> GroupAccount
-    requires room { (length (marks_of account.now.marks) < year_days) × (account.now.penalties ≤ year_days * most_penalty) }
+    requires room { (length (marks_of account.now.marks) < 366) × (account.now.penalties ≤ 366 * most_penalty) }
     requires energy { energy < 2 ^ 44 }
-    ensures value { account_of result ≡ charged (meaning rule.now) (terms_in opening.now).tariff (account_of account.now) energy }
+    ensures value { account_of result ≡ charged (R.meaning rule.now) (terms_in opening.now).tariff (account_of account.now) energy }
     ensures days { days_in result ≡ days_in account.now + 1 }
     ensures penalties { penalties_in result ≤ penalties_in account.now + most_penalty }
     ensures balance { result.balance ≡ account.now.balance }
@@ -47,9 +46,9 @@ pub(crate) fn charge<R: StageRule>(
 
 /// The ledger past the cut_off of its day.
 pub(crate) fn cut_off<R: StageRule>(rule: &R, ledger: &Ledger, sheet: &[u32]) -> Ledger
-    requires near { (ledger.now.phase ≡ Near) × (ledger.now.closed < year_days) }
+    requires near { (ledger.now.phase ≡ Near) × (ledger.now.closed < 366) }
     requires sheet { length sheet.now ≡ sheet_size (size (state_of ledger.now)) }
-    ensures { state_of result ≡ cut_off (meaning rule.now) (state_of ledger.now) sheet.now }
+    ensures { state_of result ≡ cut_off (R.meaning rule.now) (state_of ledger.now) sheet.now }
 {
     let day = ledger.on(sheet);
     let quarters = ledger.quarters() as usize;
@@ -86,21 +85,17 @@ impl Ledger {
 impl<R: StageRule> Opened<R> {
     /// Moves the phase; the second advance of a day is its cut_off.
     pub(crate) fn advance(&mut self, sheet: &[u32]) -> Result<(), Fault>
-        ensures book { (result, state_of self.new.ledger) ≡ advanced (meaning self.old.rule) (state_of self.old.ledger) sheet.now }
+        ensures book { (result, state_of self.new.ledger) ≡ advanced (R.meaning self.old.rule) (state_of self.old.ledger) sheet.now }
         ensures rule { self.new.rule ≡ self.old.rule }
     {
-        match self.ledger.phase {
-            Phase::Ahead => {
-                self.ledger.check_day(sheet)?;
-                self.ledger = self.ledger.nearer();
-                Ok(())
-            }
-            Phase::Near => {
-                self.ledger.check_day(sheet)?;
-                self.ledger = cut_off(&self.rule, &self.ledger, sheet);
-                Ok(())
-            }
-            Phase::After => Err(Fault::WrongPhase),
+        if let Phase::After = self.ledger.phase {
+            return Err(Fault::WrongPhase);
         }
+        self.ledger.check_day(sheet)?;
+        self.ledger = match self.ledger.phase {
+            Phase::Ahead => self.ledger.nearer(),
+            _ => cut_off(&self.rule, &self.ledger, sheet),
+        };
+        Ok(())
     }
 }

@@ -1,4 +1,6 @@
 //! The book: days of one control area, one after another, for 2 to 16 balance groups.
+#![tactic(auto)]
+
 pub mod answers;
 pub mod begin;
 pub mod beyond;

@@ -1,8 +1,9 @@
 //! Questions: they change nothing.
-ghost use Rattle.std.specs.Prelude.{◌≡◌, ◌+◌, ◌-◌, ◌<◌};
+ghost use Rattle.std.specs.Prelude.{◌≡◌, ◌+◌, ◌-◌, ◌<◌, ◌≤◌, map, length};
+ghost use Rattle.stage.specs.Marked.{marks_of};
 ghost use Rattle.book.specs.Kept.{cut_offs};
 ghost use Rattle.book.specs.Queries.{Numbered, group_check, quarter_check, position_answer, trade_answer, standing_answer, total_answer, standing_of, total_of};
-ghost use Rattle.book.specs.States.{state_of, size, day_quarters};
+ghost use Rattle.book.specs.States.{state_of, size, kept, day_quarters, account_of};
 
 use crate::answers::{Standing, Total};
 use crate::ledger::Ledger;
@@ -96,7 +97,7 @@ impl Ledger {
 impl<R: StageRule> Opened<R> {
     /// A group's mark and stage on a day past its cut-off.
     pub(crate) fn standing(&self, group: u16, day: u16) -> Result<Standing, Fault>
-        ensures { standing_of result ≡ standing_answer (meaning self.now.rule) (state_of self.now.ledger) group day }
+        ensures { standing_of result ≡ standing_answer (R.meaning self.now.rule) (state_of self.now.ledger) group day }
     {
         let a = self.ledger.check_group(group)?;
         if day < 1 || day > self.ledger.cut_offs() {

@@ -1,5 +1,6 @@
 //! A message.
 ghost use Rattle.std.specs.Prelude.{◌≡◌, length};
+ghost use Rattle.message.specs.Form.{said};
 ghost use Rattle.settlement.specs.Sheets.{sheet_size};
 ghost use Rattle.book.specs.Messages.{Read, Sends, Passes, series_check, submitted, submitted_of};
 ghost use Rattle.book.specs.States.{state_of, size, day_quarters};

@@ -1,11 +1,10 @@
 //! The current day of a ledger.
 ghost use Rattle.std.specs.Prelude.{◌≡◌, ◌+◌, ◌*◌, ◌<◌, ◌≤◌, length, OnOk};
 ghost use Rattle.forms.specs.Figures.{figures_of};
-ghost use Rattle.forms.specs.Bounds.{most_groups};
 ghost use Rattle.settlement.specs.Sheets.{SheetOf, slots, sheet_size, words_per_slot};
 ghost use Rattle.book.specs.Kept.{cut_offs, days_in, penalties_in, balance_in, most_penalty, most_balance};
 ghost use Rattle.book.specs.Queries.{day_check};
-ghost use Rattle.book.specs.States.{state_of, size, figures, kept, account_of, today, day_quarters, year_over, all_flags};
+ghost use Rattle.book.specs.States.{state_of, size, figures, kept, account_of, today, day_quarters, year_over};
 
 use crate::group_account::GroupAccount;
 use crate::ledger::Ledger;
@@ -21,7 +20,7 @@ impl Ledger {
         ensures value { result ≡ size (state_of self.now) }
         ensures count { result ≡ self.now.opening.count }
         ensures some { 2 ≤ result }
-        ensures few { result ≤ most_groups }
+        ensures few { result ≤ 16 }
     {
         self.opening.groups() as usize
     }
@@ -63,7 +62,7 @@ impl Ledger {
     pub(crate) fn place(&self, own: usize, number: usize) -> usize
         requires { (own < size (state_of self.now)) × (number < slots (size (state_of self.now))) }
         ensures value { result ≡ own * slots (size (state_of self.now)) + number }
-        ensures flag { result < all_flags }
+        ensures flag { result < 560 }
         ensures room { (result + 1) * words_per_slot ≤ sheet_size (size (state_of self.now)) }
     {
         own * slots_per_group(self.groups()) + number

@@ -1,9 +1,8 @@
 -- Checks one after another: a loop's start, step and exit, and the theorem that the earliest fault answers.
-use Rattle.std.proofs.Common.{◌≡◌, ℕ, zero, suc, ◌+◌, ◌<◌, Bool, true, false, not, Ok, Err, sym, refl, subst, inl, inr, add-one, arith, MatchResult}
+use Rattle.std.proofs.Common.{◌≡◌, ℕ, zero, suc, ◌+◌, ◌<◌, ◌≤◌, Bool, true, false, not, ◌⊎◌, Ok, Err, sym, refl, subst, inl, inr, add-one, arith, MatchResult}
 use Rattle.std.proofs.lemmas.Bool.{cases_order, not-false}
-use Rattle.std.specs.Result.{result_and}
 use Rattle.forms.specs.declared.fault.Fault.{Fault}
-use Rattle.forms.specs.Checks.{Verdict, refuse_if, each_of, Earliest, EarliestAnswers}
+use Rattle.forms.specs.Checks.{Verdict, and_then, refuse_if, each_of, Earliest, EarliestAnswers}
 
 pub each_none : (f : ℕ → Verdict) → each_of f 0 ≡ Ok tt
 unfolding each_of
@@ -38,7 +37,7 @@ FirstOf f n e = (i : ℕ) × (i < n) × (f i ≡ Err e) × NoneOf f i
 abbrev IsFirst : (ℕ → Verdict) → ℕ → Verdict → Type 0
 IsFirst f n r = MatchResult r (λ _. NoneOf f n) (FirstOf f n)
 
-one_more : (f : ℕ → Verdict) (n : ℕ) (r q : Verdict) → f n ≡ q → IsFirst f n r → IsFirst f (suc n) (result_and r q)
+one_more : (f : ℕ → Verdict) (n : ℕ) (r q : Verdict) → f n ≡ q → IsFirst f n r → IsFirst f (suc n) (and_then r q)
 one_more f n (Ok _) (Ok _) e h = λ k l. elim (cases_order k n)
     [ inl p ↦ rw p e | inr p ↦ elim p [ inl m ↦ h k m | inr m ↦ absurd (omega arith) ] ]
 one_more f n (Ok _) (Err x) e h = (n, omega arith, e, h)
@@ -68,13 +67,13 @@ earliest_answers check n q = nested check n q (each_of (λ i. each_of (check i) 
 pub each_passed : (f : ℕ → Verdict) (n k : ℕ) → each_of f n ≡ Ok tt → k < n → f k ≡ Ok tt
 each_passed f n k e l = none_at f n (each_of f n) e (is_first f n) k l
 
-pub and_other_left : (r q : Verdict) → result_and r q ≡ Ok tt → r ≡ Ok tt
-and_other_left (Ok _) q e = refl
-and_other_left (Err x) q e = e
+pub and_then_left : (r q : Verdict) → and_then r q ≡ Ok tt → r ≡ Ok tt
+and_then_left (Ok _) q e = refl
+and_then_left (Err x) q e = e
 
-pub and_other_right : (r q : Verdict) → result_and r q ≡ Ok tt → q ≡ Ok tt
-and_other_right (Ok _) q e = e
-and_other_right (Err x) q e = absurd (let z : ◌≡◌ {A = ℕ} 0 1 = cc in omega arith)
+pub and_then_right : (r q : Verdict) → and_then r q ≡ Ok tt → q ≡ Ok tt
+and_then_right (Ok _) q e = e
+and_then_right (Err x) q e = absurd (let z : ◌≡◌ {A = ℕ} 0 1 = cc in omega arith)
 
 -- a check that passed had its test unmet
 pub unrefused : (b : Bool) (e : Fault) → refuse_if b e ≡ Ok tt → b ≡ false

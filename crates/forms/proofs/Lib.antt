@@ -1,1 +1,5 @@
+pub mod ClosingLaws
 pub mod Firsts
+pub mod OpeningLaws
+pub mod TermLaws
+pub mod Writes

@@ -1,25 +1,23 @@
 -- Checks one after another: the first fault answers.
 use Rattle.std.specs.Prelude.{◌≡◌, ℕ, zero, suc, ◌<◌, Bool, cond, Ok, Err, Result}
-use Rattle.std.specs.Result.{result_and}
 use Rattle.forms.specs.declared.fault.Fault.{Fault}
 
 -- nothing to object to, or a fault
 abbrev pub Verdict : Type 0
 Verdict = Result (Unit {0}) Fault
 
+abbrev pub and_then : Verdict → Verdict → Verdict
+and_then (Ok _) r = r
+and_then (Err e) r = Err e
+
 -- the fault where the test is met
 abbrev pub refuse_if : Bool → Fault → Verdict
 refuse_if b e = cond b (Err e) (Ok tt)
 
--- what is there afterwards: the second where the checks have passed, the third, as it was before, where one found a fault
-abbrev pub if_passed : {A B : Type 0} → Result A Fault → B → B → B
-if_passed (Ok _) after before = after
-if_passed (Err _) after before = before
-
 -- the checks of 0, 1, .., n - 1 in this order
 unfoldable pub each_of : (ℕ → Verdict) → ℕ → Verdict
 each_of f zero = Ok tt
-each_of f (suc n) = result_and (each_of f n) (f n)
+each_of f (suc n) = and_then (each_of f n) (f n)
 
 -- What answers over series i and quarter hours t is the earliest series, and in it the earliest quarter hour.
 abbrev pub Earliest : (ℕ → ℕ → Verdict) → ℕ → ℕ → Verdict → Type 0

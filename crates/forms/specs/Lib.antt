@@ -2,7 +2,9 @@ pub mod Bounds
 pub mod Bytes
 pub mod Calendar
 pub mod Checks
+pub mod Closings
 pub mod Faults
 pub mod Figures
+pub mod Openings
 pub mod RuleForms
 pub mod Slots

@@ -5,10 +5,10 @@ use Rattle.forms.specs.declared.fault.Fault.TheVariants.{ShortForm, WrongLength,
 use Rattle.forms.specs.declared.rule_form.RuleForm.{RuleForm}
 use Rattle.forms.specs.declared.rule_form.RuleForm.TheVariants.{Rolling, Run}
 use Rattle.forms.specs.Bytes.{byte, be16}
-use Rattle.forms.specs.Calendar.{year_days}
+use Rattle.forms.specs.Calendar.{days}
 
 abbrev pub within_year : ℕ → Bool
-within_year number = nat_le 1 number && nat_le number year_days
+within_year number = nat_le 1 number && nat_le number days
 
 abbrev lawful_rule : ℕ → ℕ → Result RuleForm Fault
 lawful_rule kind number =

@@ -1,9 +1,16 @@
-//! What all forms rest on: numbers from bytes, days and quarter hours, faults, slots, and the rule form.
+//! The forms that reach the account as bytes, and the faults by which one is refused.
+#![tactic(auto)]
+
 pub mod bounds;
 pub mod bytes;
 pub mod calendar;
 pub mod checks;
+pub mod closing;
 pub mod fault;
 pub mod group;
+mod lawful;
+mod opened;
+pub mod opening;
 pub mod rule_form;
 pub mod slot;
+pub mod terms;

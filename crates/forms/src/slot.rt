@@ -1,5 +1,5 @@
 //! What a series is about.
-ghost use Rattle.std.specs.Prelude.{◌≡◌};
+ghost use Rattle.std.specs.Prelude.{◌≡◌, ◌<◌};
 ghost use Rattle.forms.specs.Slots.{slot_of, kind_of, counter_of};
 
 /// A group's series: trades out to another group, trades in from one, or a forecast.
@@ -13,42 +13,27 @@ pub enum Slot {
     Pump,
 }
 
-/// The kind of a trade out.
-pub const OUT: u8 = 1;
-
-/// The kind of a trade in.
-pub const IN: u8 = 2;
-
-/// The kind of a consumption forecast.
-pub const CONS: u8 = 3;
-
-/// The kind of a production forecast.
-pub const PROD: u8 = 4;
-
-/// The kind of a pump power forecast.
-pub const PUMP: u8 = 5;
-
 impl Slot {
     /// The kind by which a head names it.
     pub fn kind(self) -> u8
         ensures { result ≡ kind_of (slot_of self) }
     {
         match self {
-            Slot::OutTo(_) => OUT,
-            Slot::InFrom(_) => IN,
-            Slot::Cons => CONS,
-            Slot::Prod => PROD,
-            Slot::Pump => PUMP,
+            Slot::OutTo(_) => 1,
+            Slot::InFrom(_) => 2,
+            Slot::Cons => 3,
+            Slot::Prod => 4,
+            Slot::Pump => 5,
         }
     }
 
-    /// The counter by which a head names it: a group from 1, or 0. It is wider than a head's byte,
-    /// which has none for the last group that a slot can name.
-    pub fn counter(self) -> u16
+    /// The counter by which a head names it: a group from 1, or 0.
+    pub fn counter(self) -> u8
+        requires { counter_of (slot_of self) < 256 }
         ensures { result ≡ counter_of (slot_of self) }
     {
         match self {
-            Slot::OutTo(group) | Slot::InFrom(group) => u16::from(group) + 1,
+            Slot::OutTo(group) | Slot::InFrom(group) => group + 1,
             Slot::Cons | Slot::Prod | Slot::Pump => 0,
         }
     }

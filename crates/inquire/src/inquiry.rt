@@ -46,7 +46,7 @@ pub fn inquiry(rt: &HostRuntime) -> io::Result<()> {
         };
         quarters.push(quarter)?;
     }
-    let session = serve::run(rt, MOST_GROUPS as u8)?;
+    let session = serve::run_for(rt, MOST_GROUPS as u8)?;
     print_table(rt, &session, &quarters)
 }
 

@@ -1,4 +1,6 @@
 //! The table of what a book answers at the end of a session, and the program that prints it.
+#![tactic(auto)]
+
 pub mod arguments;
 pub mod inquiry;
 pub mod line;

@@ -1,21 +1,21 @@
 -- Each answer that is no refusal is the number reckoned from the journal.
-use Rattle.std.proofs.Common.{◌≡◌, ℕ, ◌+◌, ◌-◌, ◌*◌, ◌<◌, ◌≤◌, Bool, true, not, ◌&&◌, eqb, ltb, leb, List, ◌∷◌, map, take, ℤ, Ok, Option, sym, refl, ap, ◌∙◌, arith}
+use Rattle.std.proofs.Common.{◌≡◌, ℕ, zero, suc, ◌+◌, ◌-◌, ◌*◌, ◌/◌, ◌<◌, ◌≤◌, Bool, true, false, cond, not, ◌&&◌, eqb, ltb, leb, List, ◌∷◌, map, length, take, ℤ, Ok, Err, Option, Result, sym, refl, ap, ◌∙◌, arith}
 use Rattle.std.specs.List.{range_with_len}
 use Rattle.std.specs.Option.{option_map}
 use Rattle.std.proofs.lemmas.List.FromFn.{take-map-range_with_len}
 use Rattle.std.proofs.lemmas.Bool.{leb-true, and_parts}
 use Rattle.forms.specs.declared.fault.Fault.TheVariants.{WrongGroup, WrongDay, OutOfRange}
 use Rattle.forms.specs.Calendar.{quarters}
-use Rattle.forms.specs.Checks.{refuse_if}
-use Rattle.forms.proofs.Firsts.{and_other_left, and_other_right, allowed}
+use Rattle.forms.specs.Checks.{Verdict, and_then, refuse_if}
+use Rattle.forms.proofs.Firsts.{and_then_left, and_then_right, allowed}
 use Rattle.message.specs.Form.{said}
 use Rattle.message.specs.Places.{first_of, stated}
 use Rattle.stage.specs.Marked.{on_day}
 use Rattle.settlement.specs.declared.phase.Phase.{Phase}
 use Rattle.settlement.specs.declared.phase.Phase.TheVariants.{Ahead, Near, After}
 use Rattle.settlement.specs.Positions.{stated_open, confirmed_open, net_purchases, confirmed, excess}
-use Rattle.settlement.proofs.Agreement.{confirmed_same, net_purchases_same, stated_open_same, confirmed_open_same}
-use Rattle.book.specs.Closes.{day_row, day_rows}
+use Rattle.settlement.proofs.Agreement.{Agree, confirmed_same, net_purchases_same, stated_open_same, confirmed_open_same}
+use Rattle.book.specs.Closes.{day_row, day_rows, balance_today}
 use Rattle.book.specs.Kept as state-kept
 use Rattle.book.specs.Messages.{submit_check, by_message, beyond_at, beyond_count, count_where}
 use Rattle.book.specs.Queries.{one_of, day_check, group_check, quarter_check, position_check, position_of, trade_check, standing_check}
@@ -26,8 +26,9 @@ use Rattle.book.proofs.ByMessage.{by_sender}
 use Rattle.book.proofs.Meaning.{sender_named}
 use Rattle.journal.specs.Journals as journals
 use Rattle.journal.specs.Journals.{Entry, submit, close, Journal, advances, closes, cut_offs, phase_of, phase, says}
-use Rattle.journal.specs.Reckoned.{Meaning, mark, marks_to, stage, penalties, balance, row, beyond, count_beyond}
+use Rattle.journal.specs.Reckoned.{Meaning, mark, marks_to, stage, penalty_on, penalties, balance_on, balance, row, beyond, count_beyond}
 use Rattle.journal.proofs.Closing.{balance_found}
+use Rattle.journal.proofs.Counting.{no_more}
 use Rattle.journal.proofs.Earlier.{mapped_same, marks_kept, penalty_kept}
 use Rattle.journal.proofs.Keeping.{Keeps, advances_in}
 use Rattle.journal.proofs.Parts.{on_day_mark}
@@ -62,9 +63,9 @@ module _ (m : Meaning) (s : State) (w : List ℕ) (j : Journal) (k : Keeps m j s
       let a = group - 1 in
       let t = quarter - 1 in
       let g = size s in
-      let rest = and_other_right (day_check s w) _ h in
-      let there = group_there group (and_other_left (group_check s group) _ rest) in
-      let same = k.agree t (quarter_there quarter (and_other_right (group_check s group) _ rest)) in
+      let rest = and_then_right (day_check s w) _ h in
+      let there = group_there group (and_then_left (group_check s group) _ rest) in
+      let same = k.agree t (quarter_there quarter (and_then_right (group_check s group) _ rest)) in
       let x = stated_open_same g (statements s w) (says j) (figures s a) t a same there in
       let y = confirmed_open_same g (statements s w) (says j) (figures s a) t a same there in
       let z = net_purchases_same g (statements s w) (says j) t a same there in
@@ -74,12 +75,12 @@ module _ (m : Meaning) (s : State) (w : List ℕ) (j : Journal) (k : Keeps m j s
       → confirmed (statements s w) (quarter - 1) (from - 1) (to - 1) ≡ confirmed (says j) (quarter - 1) (from - 1) (to - 1)
   trade_right from to quarter h =
       let g = size s in
-      let rest = and_other_right (day_check s w) _ h in
+      let rest = and_then_right (day_check s w) _ h in
       let groups = refuse_if (not (one_of g from && one_of g to && not (eqb from to))) WrongGroup in
-      let named = (and_parts (one_of g from && one_of g to) (not (eqb from to)) (allowed (one_of g from && one_of g to && not (eqb from to)) WrongGroup (and_other_left groups _ rest))).0 in
+      let named = (and_parts (one_of g from && one_of g to) (not (eqb from to)) (allowed (one_of g from && one_of g to && not (eqb from to)) WrongGroup (and_then_left groups _ rest))).0 in
       let both = and_parts (one_of g from) (one_of g to) named in
       confirmed_same g (statements s w) (says j) (quarter - 1) (from - 1) (to - 1)
-      (k.agree (quarter - 1) (quarter_there quarter (and_other_right groups _ rest)))
+      (k.agree (quarter - 1) (quarter_there quarter (and_then_right groups _ rest)))
       (one_below g from both.0).1 (one_below g to both.1).1
 
   -- the cut-offs by the state are those of the journal
@@ -99,9 +100,9 @@ module _ (m : Meaning) (s : State) (w : List ℕ) (j : Journal) (k : Keeps m j s
       → ◌≡◌ {A = Bool × ℕ} (on_day (kept s (group - 1)).marks day, m (take day (kept s (group - 1)).marks)) (mark s.terms j (group - 1) day, stage m s.terms j (group - 1) day)
   standing_right group day h =
       let a = group - 1 in
-      let there = group_there group (and_other_left (group_check s group) _ h) in
+      let there = group_there group (and_then_left (group_check s group) _ h) in
       let c = state-kept.cut_offs s.closed s.phase in
-      let d = one_below c day (allowed (one_of c day) WrongDay (and_other_right (group_check s group) _ h)) in
+      let d = one_below c day (allowed (one_of c day) WrongDay (and_then_right (group_check s group) _ h)) in
       let below : day ≤ cut_offs j = omega (arith, passed, d.0, d.1) in
       let xs = k.marks a there in
       let x = ap (λ ys. on_day ys day) xs ∙ on_day_mark s.terms j a (cut_offs j) day d.0 below in

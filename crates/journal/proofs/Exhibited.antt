@@ -2,9 +2,9 @@
 use Rattle.std.proofs.Common.{◌≡◌, ℕ, ◌<◌, Bool, true, false, List, [], ◌∷◌, ◌++◌, length, replicate, ℤ, pos, nat_abs, Some, Ok, sym, refl, ap, ◌∙◌, arith}
 use Rattle.std.proofs.lemmas.Bool.{le-leb}
 use Rattle.forms.specs.Calendar.{quarters}
-use Rattle.forms.specs.Checks.{each_of, if_passed}
+use Rattle.forms.specs.Checks.{each_of}
 use Rattle.forms.specs.Figures.{Terms}
-use Rattle.opening.specs.Openings.{terms_of, group_at, row_at}
+use Rattle.forms.specs.Openings.{terms_of, group_at, row_at}
 use Rattle.message.specs.Form.{value_at}
 use Rattle.message.specs.Places.{first_of, place_under, value_under}
 use Rattle.stage.specs.Rules.{rolling, days_where, in_window}
@@ -14,7 +14,7 @@ use Rattle.settlement.specs.declared.phase.Phase.TheVariants.{Ahead, Near}
 use Rattle.settlement.specs.Positions.{confirmed, confirmed_with, stated_with, stated_open, confirmed_open, day_excess}
 use Rattle.settlement.specs.Sheets.{on_sheet}
 use Rattle.settlement.specs.Sums.{sumℕ, sumℤ}
-use Rattle.book.specs.Cuts.{cut_off, past_cut_off}
+use Rattle.book.specs.Cuts.{cut_off, past_cut_off, state_if}
 use Rattle.book.specs.Messages.{submit_check, beyond_count, state_with, sheet_after, flags_after, by_message, count_where}
 use Rattle.book.specs.Opens.{open_check, new_book}
 use Rattle.book.specs.Queries.{day_check, standing_answer, total_answer}
@@ -22,10 +22,10 @@ use Rattle.book.specs.Sheets.{all_powers}
 use Rattle.book.specs.States.{State, GroupState, nothing_kept}
 use Rattle.book.proofs.Submitting.{submit_accepted}
 use Rattle.journal.specs.Books.{Step, Stepped, Brings, JournalOf}
-use Rattle.journal.specs.Exhibit.{FartherCostsMore, opening, message, unsent, laid, idle, short}
+use Rattle.journal.specs.Exhibit.{FartherCostsMore, FartherOut, opening, message, unsent, laid, idle, short}
 use Rattle.journal.specs.Journals.{Journal, submit, advance, standing, total, how_many, before, last_message, says, cut_offs}
 use Rattle.journal.specs.Reckoned.{Meaning, open_at, excess_on, marks_to, penalty_on, penalties, stage}
-use Rattle.journal.specs.Theorem.{Lawful, FartherOut}
+use Rattle.journal.specs.Theorem.{Lawful}
 use Rattle.journal.proofs.Replay.{opens}
 
 abbrev m : Meaning
@@ -111,8 +111,8 @@ module _ (flags : List Bool) (groups : List GroupState) (w : List ℕ) (j : Jour
   past_one_day : Brings m opening j ahead w → day_check ahead w ≡ Ok tt → Ok x ≡ standing_answer m after 1 1 → Ok y ≡ total_answer after 1
       → JournalOf m opening (total 1 (Ok y) ∷ standing 1 1 (Ok x) ∷ advance w (Ok tt) ∷ advance w (Ok tt) ∷ j)
   past_one_day b fits stands owes =
-      let to-near : Stepped m (advance w (Ok tt)) ahead w near w = (refl, sym fits, ap (λ v. if_passed v near ahead) (sym fits), refl) in
-      let to-after : Stepped m (advance w (Ok tt)) near w after w = (refl, sym fits, ap (λ v. if_passed v after near) (sym fits), refl) in
+      let to-near : Stepped m (advance w (Ok tt)) ahead w near w = (refl, sym fits, ap (λ v. state_if v near ahead) (sym fits), refl) in
+      let to-after : Stepped m (advance w (Ok tt)) near w after w = (refl, sym fits, ap (λ v. state_if v after near) (sym fits), refl) in
       let still : Step after w after w = record { book = refl; sheet = refl } in
       (after, w, (after, w, (after, w, (near, w, (ahead, w, b, to-near), to-after), (stands, still)), (owes, still)))
 

@@ -1,23 +1,25 @@
 -- A book that has just been opened.
-use Rattle.std.proofs.Common.{◌≡◌, ℕ, ◌+◌, ◌/◌, ◌<◌, Bool, false, not, eqb, List, [], length, replicate, pos, Some, None, Ok, Option, sym, refl, ap, ◌∙◌, arith}
+use Rattle.std.proofs.Common.{◌≡◌, ℕ, ◌+◌, ◌*◌, ◌/◌, ◌<◌, ◌≤◌, Bool, true, false, not, eqb, List, [], length, get_or, replicate, ℤ, pos, Some, None, Ok, Err, Option, sym, refl, ap, ◌∙◌, arith}
 use Rattle.std.proofs.lemmas.List.{get_or-replicate, length-replicate}
 use Rattle.std.proofs.lemmas.Bool.{eqb-true, and_parts}
 use Rattle.forms.specs.declared.fault.Fault.TheVariants.{WrongBuffer}
-use Rattle.forms.specs.Checks.{refuse_if, if_passed}
-use Rattle.opening.specs.Openings.{sizes_check, groups_told, terms_of, LawfulTerms}
+use Rattle.forms.specs.Checks.{Verdict, and_then, refuse_if}
+use Rattle.forms.specs.Openings.{sizes_check, rows_check, groups_told, terms_of, LawfulTerms}
 use Rattle.forms.specs.Slots.{Slot}
-use Rattle.forms.proofs.Firsts.{and_other_left, and_other_right, allowed}
-use Rattle.opening.proofs.TermLaws.{length_groups, lawful_terms}
-use Rattle.amounts.specs.Laws.{NeverFalls}
-use Rattle.settlement.specs.Sheets.{slot_place, sheet_size}
+use Rattle.forms.proofs.Firsts.{and_then_left, and_then_right, allowed}
+use Rattle.forms.proofs.TermLaws.{length_groups, lawful_terms}
+use Rattle.settlement.specs.declared.phase.Phase.TheVariants.{Ahead}
+use Rattle.settlement.specs.Laws.{NeverFalls}
+use Rattle.settlement.specs.Sheets.{slots, slot_place, sheet_size}
 use Rattle.settlement.specs.Sums.{sumℕ, sumℤ}
 use Rattle.settlement.proofs.Places.{on_sheet_unsent}
 use Rattle.settlement.proofs.Sums.{sumℕ-none, sumℤ-none}
-use Rattle.book.specs.Opens.{new_book, open_check, opened_by}
+use Rattle.book.specs.Cuts.{sheet_if}
+use Rattle.book.specs.Opens.{new_book, open_check, place_if, opened_by}
 use Rattle.book.specs.Sheets.{sheet_fits, all_powers}
-use Rattle.book.specs.States.{State, all_flags, nothing_kept, kept, statements}
+use Rattle.book.specs.States.{State, GroupState, all_flags, nothing_kept, size, kept, statements}
 use Rattle.book.proofs.Days.{flags_enough}
-use Rattle.journal.specs.Journals.{advances, closes, cut_offs, how_many, says, last_message}
+use Rattle.journal.specs.Journals.{Journal, advances, closes, cut_offs, how_many, says, last_message}
 use Rattle.journal.specs.Reckoned.{Meaning, marks_to, penalty_on, penalties, balance_on, balance}
 use Rattle.journal.proofs.Advancing.{ahead_not_after}
 use Rattle.journal.proofs.Closing.{unset}
@@ -34,16 +36,16 @@ module _ (m : Meaning) (form given : List ℕ) (s : State) (w : List ℕ) (h : o
   pub state_new : new_book (terms_of form) ≡ s
   state_new =
       let new = new_book (terms_of form) in
-      ap (state_in new) (sym (ap (λ v. if_passed v (Some (m, new)) None) checked) ∙ ap (λ o. o.1) h)
+      ap (state_in new) (sym (ap (λ v. place_if v m new None) checked) ∙ ap (λ o. o.1) h)
 
   pub sheet_new : replicate (length given) 0 ≡ w
-  sheet_new = sym (ap (λ v. if_passed v (replicate (length given) 0) given) checked) ∙ ap (λ o. o.2) h
+  sheet_new = sym (ap (λ v. sheet_if v (replicate (length given) 0) given) checked) ∙ ap (λ o. o.2) h
 
   sized : sizes_check form ≡ Ok tt
-  sized = and_other_left (sizes_check form) _ checked
+  sized = and_then_left (sizes_check form) _ checked
 
   pub lawful : LawfulTerms (terms_of form)
-  lawful = lawful_terms form sized (and_other_right (refuse_if (not (sheet_fits (groups_told form) given)) WrongBuffer) _ (and_other_right (sizes_check form) _ checked))
+  lawful = lawful_terms form sized (and_then_right (refuse_if (not (sheet_fits (groups_told form) given)) WrongBuffer) _ (and_then_right (sizes_check form) _ checked))
 
   pub never_falls : NeverFalls (terms_of form).tariff
   never_falls k l = (lawful.fees_rise k (k + 1) _ (omega arith) l, lawful.rates_rise k (k + 1) _ (omega arith) l)
@@ -52,7 +54,7 @@ module _ (m : Meaning) (form given : List ℕ) (s : State) (w : List ℕ) (h : o
   fitted =
       eqb-true (length given) (sheet_size (groups_told form))
       (and_parts (eqb (length given) (sheet_size (groups_told form))) (all_powers given)
-      (allowed (sheet_fits (groups_told form) given) WrongBuffer (and_other_left (refuse_if (not (sheet_fits (groups_told form) given)) WrongBuffer) _ (and_other_right (sizes_check form) _ checked)))
+      (allowed (sheet_fits (groups_told form) given) WrongBuffer (and_then_left (refuse_if (not (sheet_fits (groups_told form) given)) WrongBuffer) _ (and_then_right (sizes_check form) _ checked)))
       ).0
 
   kept_new : (a : ℕ) → a < length (terms_of form).groups → kept (new_book (terms_of form)) a ≡ nothing_kept

@@ -1,8 +1,8 @@
 -- What a journal of a book is: each call works on that book, its rule and, unless it is refused, on the sheet given to open.
-use Rattle.std.specs.Prelude.{◌≡◌, ℕ, List, [], ◌∷◌, length, Some, None, Ok, Err, Result}
+use Rattle.std.specs.Prelude.{◌≡◌, ℕ, Bool, List, [], ◌∷◌, length, Some, None, Ok, Err, Option, Result}
 use Rattle.forms.specs.declared.fault.Fault.{Fault}
-use Rattle.forms.specs.Checks.{if_passed}
-use Rattle.book.specs.Closes.{closed_by}
+use Rattle.forms.specs.Checks.{Verdict}
+use Rattle.book.specs.Closes.{Lent, closed_by}
 use Rattle.book.specs.Cuts.{advanced}
 use Rattle.book.specs.Messages.{submitted}
 use Rattle.book.specs.Opens.{opened_by}
@@ -17,6 +17,11 @@ abbrev pub Own : {A : Type 0} → Result A Fault → List ℕ → List ℕ → T
 Own (Ok _) given sheet = given ≡ sheet
 Own (Err _) given sheet = Unit {0}
 
+-- and only an accepted one has changed it
+abbrev pub left_if : {A : Type 0} → Result A Fault → List ℕ → List ℕ → List ℕ
+left_if (Ok _) after before = after
+left_if (Err _) after before = before
+
 -- book and sheet before an entry, and after it
 pub record Step (s : State) (w : List ℕ) (after : State) (left : List ℕ) : Type 0 where
   pub book : after ≡ s
@@ -25,14 +30,14 @@ pub record Step (s : State) (w : List ℕ) (after : State) (left : List ℕ) : T
 abbrev pub Stepped : Meaning → Entry → State → List ℕ → State → List ℕ → Type 0
 Stepped m (submit form given answer) s w after left =
     let o = submitted s given form in
-    Own answer given w × (answer ≡ o.0) × (after ≡ o.1) × (left ≡ if_passed answer o.2 w)
+    Own answer given w × (answer ≡ o.0) × (after ≡ o.1) × (left ≡ left_if answer o.2 w)
 Stepped m (advance given answer) s w after left =
     let o = advanced m s given in
     Own answer given w × (answer ≡ o.0) × (after ≡ o.1) × (left ≡ w)
 Stepped m (close form given rows answer) s w after left =
     (lent : List Row)
     × (let o = closed_by m s (record { sheet = given; rows = lent }) form in
-    Own answer given w × (length lent ≡ rows) × (answer ≡ answer_if o.0 o.2.rows) × (after ≡ o.1) × (left ≡ if_passed answer o.2.sheet w))
+    Own answer given w × (length lent ≡ rows) × (answer ≡ answer_if o.0 o.2.rows) × (after ≡ o.1) × (left ≡ left_if answer o.2.sheet w))
 Stepped m (position given group quarter answer) s w after left = Own answer given w × (answer ≡ position_answer s given group quarter) × Step s w after left
 Stepped m (trade given from to quarter answer) s w after left = Own answer given w × (answer ≡ trade_answer s given from to quarter) × Step s w after left
 Stepped m (standing group day answer) s w after left = (answer ≡ standing_answer m s group day) × Step s w after left

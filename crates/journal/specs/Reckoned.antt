@@ -1,14 +1,14 @@
 -- The account as it is reckoned from a journal: groups and quarter hours count from 0, days from 1.
-use Rattle.std.specs.Prelude.{◌≡◌, ℕ, ◌+◌, ◌-◌, Bool, List, [], ◌∷◌, map, length, ℤ, Ok, Err, Option, Result, nat_lt, slice_index_or}
+use Rattle.std.specs.Prelude.{◌≡◌, ℕ, ◌+◌, ◌-◌, Bool, cond, List, [], ◌∷◌, map, length, ℤ, Ok, Err, Option, Result, nat_lt, slice_index_or}
 use Rattle.std.specs.List.{range_with_len}
 use Rattle.std.specs.Option.{option_map}
 use Rattle.forms.specs.declared.fault.Fault.{Fault}
 use Rattle.forms.specs.Calendar.{quarters}
-use Rattle.closing.specs.Closings.{feed_in, long_price, short_price}
+use Rattle.forms.specs.Closings.{feed_in, long_price, short_price}
 use Rattle.forms.specs.Figures.{GroupFigures, Terms}
 use Rattle.message.specs.Form.{said}
 use Rattle.message.specs.Places.{first_of}
-use Rattle.amounts.specs.Amounts.{is_marked, row_for, penalty, balance_amount}
+use Rattle.settlement.specs.Amounts.{is_marked, row_for, penalty, balance_amount}
 use Rattle.settlement.specs.Positions.{stated_open, confirmed_open, net_purchases, confirmed, excess, day_excess}
 use Rattle.settlement.specs.Sums.{sumℕ, sumℤ}
 use Rattle.book.specs.Messages.{count_where}

@@ -1,8 +1,7 @@
 -- Nobody who sends messages can bend the account.
 use Rattle.std.specs.Prelude.{◌≡◌, ℕ, ◌+◌, ◌<◌, ◌≤◌, Bool, true, List, ◌∷◌, length, ℤ, pos, Ok}
-use Rattle.forms.specs.Calendar.{quarters, year_days}
-use Rattle.forms.specs.Figures.{Terms}
-use Rattle.opening.specs.Openings.{terms_of}
+use Rattle.forms.specs.Calendar.{quarters}
+use Rattle.forms.specs.Openings.{terms_of}
 use Rattle.forms.specs.Slots.{out_to, in_from}
 use Rattle.stage.specs.Marked.{Under}
 use Rattle.settlement.specs.Positions.{confirmed, net_purchases, as_far_out}
@@ -13,12 +12,12 @@ use Rattle.journal.specs.Reckoned.{Meaning, groups, open_at, mark, stage, penalt
 
 -- The two laws of a stage rule, over lists of at most 366 marks: at most 366, and marking more of the same days never lowers it.
 pub record Lawful (m : Meaning) : Type 0 where
-  pub bounded : (xs : List Bool) → length xs ≤ year_days → m xs ≤ year_days
-  pub monotone : (xs ys : List Bool) → length xs ≤ year_days → Under xs ys → m xs ≤ m ys
+  pub bounded : (xs : List Bool) → length xs ≤ 366 → m xs ≤ 366
+  pub monotone : (xs ys : List Bool) → length xs ≤ 366 → Under xs ys → m xs ≤ m ys
 
 -- two rules that say the same of 1 to 366 marks, whatever their types
 abbrev pub OneRule : Meaning → Meaning → Type 0
-OneRule m n = (xs : List Bool) → 1 ≤ length xs → length xs ≤ year_days → m xs ≡ n xs
+OneRule m n = (xs : List Bool) → 1 ≤ length xs → length xs ≤ 366 → m xs ≡ n xs
 
 -- 1. Each answer that is no refusal is the number reckoned from the journal.
 abbrev pub Answers : List ℕ → Type 0
@@ -41,16 +40,12 @@ MarksAlone form =
     → (stage m (terms_of form) j a day ≡ stage n (terms_of form) k a day)
     × ((x y : Bool × ℕ) → JournalOf m form (standing (a + 1) day (Ok x) ∷ j) → JournalOf n form (standing (a + 1) day (Ok y) ∷ k) → x.1 ≡ y.1)
 
--- at each cut-off, in each quarter hour, group a's confirmed open position is at least as far from zero in the second journal
-abbrev pub FartherOut : Terms → Journal → Journal → ℕ → Type 0
-FartherOut terms j k a = (day t : ℕ) → 1 ≤ day → day ≤ cut_offs j → t < quarters day → as_far_out (open_at terms j a day t) (open_at terms k a day t) ≡ true
-
 -- 4. Standing farther out never costs less. Said of the reckoned stages and penalties, and of what standing and total answer or would answer next.
 abbrev pub FartherNoCheaper : List ℕ → Type 0
 FartherNoCheaper form =
     (m n : Meaning) (j k : Journal) → Lawful m → Lawful n → OneRule m n → JournalOf m form j → JournalOf n form k
     → cut_offs j ≡ cut_offs k → (a : ℕ) → a < groups (terms_of form)
-    → FartherOut (terms_of form) j k a
+    → ((day t : ℕ) → 1 ≤ day → day ≤ cut_offs j → t < quarters day → as_far_out (open_at (terms_of form) j a day t) (open_at (terms_of form) k a day t) ≡ true)
     → ((day : ℕ) → 1 ≤ day → day ≤ cut_offs j
     → (stage m (terms_of form) j a day ≤ stage n (terms_of form) k a day)
     × ((x y : Bool × ℕ) → JournalOf m form (standing (a + 1) day (Ok x) ∷ j) → JournalOf n form (standing (a + 1) day (Ok y) ∷ k) → x.1 ≤ y.1))

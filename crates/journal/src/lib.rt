@@ -1,4 +1,6 @@
 //! The theorem over whole journals of calls, and that there are such journals.
+#![tactic(auto)]
+
 ghost use Rattle.journal.specs.Exhibit.{FartherCostsMore};
 ghost use Rattle.journal.specs.Exists.{OneJournal};
 ghost use Rattle.journal.specs.Theorem.{NobodyBends};

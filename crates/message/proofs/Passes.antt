@@ -2,12 +2,10 @@
 use Rattle.std.proofs.Common.{◌≡◌, ℕ, zero, suc, ◌+◌, ◌<◌, Bool, true, false, not, ◌&&◌, ◌||◌, eqb, ltb, leb, List, is_ok, Some, None, Ok, Err, sym, refl, ap, ◌∙◌, add-one, arith}
 use Rattle.std.proofs.lemmas.Bool.{and_left, and_right, cond-false}
 use Rattle.std.proofs.lemmas.Bool.Decides.{nat_tests}
-use Rattle.std.specs.Result.{result_and}
-use Rattle.forms.specs.Checks.{Verdict, refuse_if, each_of}
+use Rattle.forms.specs.Checks.{Verdict, and_then, refuse_if, each_of}
 use Rattle.forms.specs.declared.fault.Fault.{Fault}
 use Rattle.forms.proofs.Firsts.{each_none, each_more}
 use Rattle.forms.specs.Bounds.{power_bound}
-use Rattle.forms.specs.Slots.{out_kind, in_kind}
 use Rattle.message.specs.Form.{kind_at, counter_at, value_at}
 use Rattle.message.specs.Told.{is_forecast}
 use Rattle.message.specs.Places.{place_under, value_under}
@@ -23,7 +21,7 @@ each_all f (suc n) h = rw (← add-one n) (each_more f n (each_all f n (λ k l. 
 pub ok_none : (f : ℕ → Verdict) → true ≡ is_ok (each_of f 0)
 ok_none f = ap is_ok (sym (each_none f))
 
-both_ok : (r q : Verdict) → is_ok (result_and r q) ≡ (is_ok r && is_ok q)
+both_ok : (r q : Verdict) → is_ok (and_then r q) ≡ (is_ok r && is_ok q)
 both_ok (Ok _) q = refl
 both_ok (Err e) q = refl
 
@@ -49,12 +47,12 @@ not_both x y = grind (arith, nat_tests)
 pub range_ok : (q : ℕ) (s : List ℕ) (i t v : ℕ) → v ≡ value_at q s i t → leb v power_bound ≡ is_ok (range_check q s i t)
 range_ok q s i t v e = ap (λ x. leb x power_bound) e ∙ leb_not (value_at q s i t) power_bound ∙ refuse_ok (ltb power_bound (value_at q s i t)) _
 
-pub opposed_ok : (q : ℕ) (s : List ℕ) (i opposite t x y : ℕ) → kind_at s i ≡ out_kind → place_under s in_kind (counter_at s i) ≡ Some opposite
+pub opposed_ok : (q : ℕ) (s : List ℕ) (i opposite t x y : ℕ) → kind_at s i ≡ 1 → place_under s 2 (counter_at s i) ≡ Some opposite
     → x ≡ value_at q s i t → y ≡ value_at q s opposite t → (eqb x 0 || eqb y 0) ≡ is_ok (opposed_check q s i t)
 opposed_ok q s i opposite t x y out into e f =
     not_both x y
-    ∙ (λ j. not (eqb (sym out j) out_kind && (ltb 0 (e j) && ltb 0 ((f ∙ sym (value_found q s in_kind (counter_at s i) opposite t into)) j))))
-    ∙ refuse_ok (eqb (kind_at s i) out_kind && (ltb 0 (value_at q s i t) && ltb 0 (value_under q s in_kind (counter_at s i) t))) _
+    ∙ (λ j. not (eqb (sym out j) 1 && (ltb 0 (e j) && ltb 0 ((f ∙ sym (value_found q s 2 (counter_at s i) opposite t into)) j))))
+    ∙ refuse_ok (eqb (kind_at s i) 1 && (ltb 0 (value_at q s i t) && ltb 0 (value_under q s 2 (counter_at s i) t))) _
 
 pub refuse_none : (b : Bool) (e : Fault) → b ≡ false → refuse_if b e ≡ Ok tt
 refuse_none b e h = cond-false b (Err e) (Ok tt) h

@@ -1,6 +1,6 @@
 -- A series as read: a part of the message, either a trade or a forecast, with its place from 1.
 use Rattle.std.specs.Prelude.{◌≡◌, ℕ, ◌+◌, ◌-◌, ◌≤◌, Bool, cond, ◌&&◌, ◌||◌, List, Some, None, Option, ◌==◌, nat_le}
-use Rattle.forms.specs.Slots.{Slot, out_to, in_from, cons, prod, pump, out_kind, in_kind, cons_kind, prod_kind, pump_kind}
+use Rattle.forms.specs.Slots.{Slot, out_to, in_from, cons, prod, pump}
 use Rattle.message.specs.declared.series.Direction.{Direction}
 use Rattle.message.specs.declared.series.Direction.TheVariants.{Out, In}
 use Rattle.message.specs.declared.series.ForecastKind.{ForecastKind}
@@ -9,12 +9,12 @@ use Rattle.message.specs.declared.series.Series as src
 use Rattle.message.specs.declared.series.Series.TheVariants as src-series
 use Rattle.message.specs.Form.{kind_at, counter_at, values_at}
 
--- a trade, out or in, and a forecast, of consumption, production or pump power
+-- a trade out (1) or in (2), and a forecast of consumption (3), production (4) or pump power (5)
 abbrev pub is_trade : ℕ → Bool
-is_trade kind = kind == out_kind || kind == in_kind
+is_trade kind = kind == 1 || kind == 2
 
 abbrev pub is_forecast : ℕ → Bool
-is_forecast kind = nat_le cons_kind kind && nat_le kind pump_kind
+is_forecast kind = nat_le 3 kind && nat_le kind 5
 
 -- what a series says: a trade has a place, a kind, a counter and the bytes of its values; a forecast has no counter
 pub data Told : Type 0 where
@@ -37,8 +37,8 @@ Names (forecast place kind bytes) = Unit {0}
 -- what a head of this kind and counter is about
 abbrev pub slot_under : ℕ → ℕ → Slot
 slot_under kind counter =
-    cond (kind == out_kind) (out_to (counter - 1))
-    (cond (kind == in_kind) (in_from (counter - 1)) (cond (kind == cons_kind) cons (cond (kind == prod_kind) prod pump)))
+    cond (kind == 1) (out_to (counter - 1))
+    (cond (kind == 2) (in_from (counter - 1)) (cond (kind == 3) cons (cond (kind == 4) prod pump)))
 
 -- what series i of a message is about
 abbrev pub slot_at : List ℕ → ℕ → Slot
@@ -57,13 +57,13 @@ series_of q s i =
 
 -- the same as the code holds it
 abbrev direction_kind : Direction → ℕ
-direction_kind Out = out_kind
-direction_kind In = in_kind
+direction_kind Out = 1
+direction_kind In = 2
 
 abbrev forecast_kind : ForecastKind → ℕ
-forecast_kind Cons = cons_kind
-forecast_kind Prod = prod_kind
-forecast_kind Pump = pump_kind
+forecast_kind Cons = 3
+forecast_kind Prod = 4
+forecast_kind Pump = 5
 
 abbrev pub told : src.Series → Told
 told (src-series.Trade place direction counter values) = trade place (direction_kind direction) counter values.now

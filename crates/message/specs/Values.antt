@@ -1,10 +1,8 @@
 -- Which values a message may have. Values are powers in kW.
 use Rattle.std.specs.Prelude.{ℕ, ◌+◌, Bool, not, ◌&&◌, List, ◌==◌, nat_lt}
 use Rattle.forms.specs.Bounds.{power_bound}
-use Rattle.std.specs.Result.{result_and}
-use Rattle.forms.specs.Checks.{Verdict, refuse_if, each_of}
+use Rattle.forms.specs.Checks.{Verdict, and_then, refuse_if, each_of}
 use Rattle.forms.specs.declared.fault.Fault.TheVariants.{OutOfRange, UnmeteredForecast, OpposedTrades}
-use Rattle.forms.specs.Slots.{out_kind, in_kind}
 use Rattle.message.specs.Form.{series_count, kind_at, counter_at, value_at}
 use Rattle.message.specs.Told.{is_forecast}
 use Rattle.message.specs.Places.{value_under}
@@ -26,14 +24,14 @@ abbrev pub forecast_check : ℕ → Bool → List ℕ → ℕ → ℕ → Verdic
 forecast_check q metered s i t =
     refuse_if (not metered && (is_forecast (kind_at s i) && nat_lt 0 (value_at q s i t))) (UnmeteredForecast (i + 1) (t + 1))
 
--- Trades out to a group and in from it are not both above 0: the out series is refused if the in series
--- with its counter has a value too.
+-- Trades out to a group and in from it are not both above 0: the out series (kind 1) is refused if the in series
+-- (kind 2) with its counter has a value too.
 abbrev pub opposed_check : ℕ → List ℕ → ℕ → ℕ → Verdict
 opposed_check q s i t =
-    refuse_if (kind_at s i == out_kind && (nat_lt 0 (value_at q s i t) && nat_lt 0 (value_under q s in_kind (counter_at s i) t))) (OpposedTrades (i + 1) (t + 1))
+    refuse_if (kind_at s i == 1 && (nat_lt 0 (value_at q s i t) && nat_lt 0 (value_under q s 2 (counter_at s i) t))) (OpposedTrades (i + 1) (t + 1))
 
 -- these three, each over the whole message
 abbrev pub values_check : ℕ → Bool → List ℕ → Verdict
 values_check q metered s =
-    result_and (in_message q s (range_check q s))
-    (result_and (in_message q s (forecast_check q metered s)) (in_message q s (opposed_check q s)))
+    and_then (in_message q s (range_check q s))
+    (and_then (in_message q s (forecast_check q metered s)) (in_message q s (opposed_check q s)))

@@ -7,6 +7,30 @@ ghost use Rattle.message.specs.Places.{first_of, head_is, place_of, place_under,
 use crate::MessageReader;
 use forms::slot::Slot;
 
+/// The kind by which a head names the slot.
+fn kind_of(slot: Slot) -> u8
+    ensures { result ≡ kind_of (slot_of slot) }
+{
+    match slot {
+        Slot::OutTo(_) => 1,
+        Slot::InFrom(_) => 2,
+        Slot::Cons => 3,
+        Slot::Prod => 4,
+        Slot::Pump => 5,
+    }
+}
+
+/// The counter by which a head names the slot. It is wider than a head's byte, which has none for
+/// the last group that a slot can name.
+fn counter_of(slot: Slot) -> u16
+    ensures { result ≡ counter_of (slot_of slot) }
+{
+    match slot {
+        Slot::OutTo(group) | Slot::InFrom(group) => u16::from(group) + 1,
+        Slot::Cons | Slot::Prod | Slot::Pump => 0,
+    }
+}
+
 impl<'a> MessageReader<'a> {
     /// The first of the first `below` series whose head has this kind and counter.
     pub(crate) fn first_below(&self, below: u8, kind: u8, counter: u16) -> Option<u8>
@@ -38,6 +62,6 @@ impl<'a> MessageReader<'a> {
         ensures value { result ≡ place_of self.now.bytes.now (slot_of slot) }
         ensures first { IsFirst (head_is self.now.bytes.now (kind_of (slot_of slot)) (counter_of (slot_of slot))) (series_count self.now.bytes.now) result }
     {
-        self.find_head(slot.kind(), slot.counter())
+        self.find_head(kind_of(slot), counter_of(slot))
     }
 }

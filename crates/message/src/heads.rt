@@ -6,7 +6,6 @@ ghost use Rattle.message.specs.Heads.{head_check, once_check, heads_check};
 
 use crate::{Head, MessageReader, place};
 use forms::fault::Fault;
-use forms::slot::{CONS, IN, OUT, PUMP};
 
 impl<'a> MessageReader<'a> {
     /// The head of series `i` names another group in a trade, and 0 in a forecast.
@@ -17,8 +16,8 @@ impl<'a> MessageReader<'a> {
     {
         let Head { kind, counter } = self.head(i);
         match kind {
-            OUT | IN if counter >= 1 && counter <= groups && counter - 1 != own => Ok(()),
-            CONS..=PUMP if counter == 0 => Ok(()),
+            1 | 2 if counter >= 1 && counter <= groups && counter - 1 != own => Ok(()),
+            3..=5 if counter == 0 => Ok(()),
             _ => Err(Fault::UnlawfulHead { series: place(i) }),
         }
     }

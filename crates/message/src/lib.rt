@@ -2,6 +2,8 @@
 //!
 //! Series and quarter hours count from 0; only the places of faults and of a series as read count
 //! from 1.
+#![tactic(auto)]
+
 ghost use Rattle.std.specs.Prelude.{◌≡◌, ◌+◌, ◌*◌, ◌<◌, ◌≤◌, length, OnOk};
 ghost use Rattle.message.specs.Form.{Formed, series_count, header_of, head_of, value_at, values_at, values_start};
 
@@ -27,7 +29,7 @@ pub struct Header {
 
 /// The head of a series, as its two bytes have it.
 #[derive(Clone, Copy)]
-pub(crate) struct Head {
+pub struct Head {
     pub kind: u8,
     pub counter: u8,
 }
@@ -81,7 +83,7 @@ impl<'a> MessageReader<'a> {
     }
 
     /// How many series the message has.
-    pub(crate) fn count(&self) -> u8
+    pub fn count(&self) -> u8
         requires { Formed self.now.quarters self.now.bytes.now }
         ensures { result ≡ series_count self.now.bytes.now }
     {
@@ -89,7 +91,7 @@ impl<'a> MessageReader<'a> {
     }
 
     /// The head of series `i`.
-    pub(crate) fn head(&self, i: u8) -> Head
+    pub fn head(&self, i: u8) -> Head
         requires formed { Formed self.now.quarters self.now.bytes.now }
         requires there { i < series_count self.now.bytes.now }
         ensures { result ≡ head_of self.now.bytes.now i }
@@ -112,7 +114,7 @@ impl<'a> MessageReader<'a> {
     }
 
     /// The value of series `i` at quarter hour `t`.
-    pub(crate) fn value(&self, i: u8, t: u8) -> u32
+    pub fn value(&self, i: u8, t: u8) -> u32
         requires formed { Formed self.now.quarters self.now.bytes.now }
         requires there { i < series_count self.now.bytes.now }
         requires within { t < self.now.quarters }

@@ -7,7 +7,7 @@ ghost use Rattle.message.specs.Told.{told, Shows, Names, place_told, bytes_of, t
 
 use crate::{Head, MessageReader, place};
 use forms::bytes::be32_at;
-use forms::slot::{CONS, IN, OUT, PROD, PUMP, Slot};
+use forms::slot::Slot;
 
 /// Whether a trade goes out to the other group or comes in from it.
 #[derive(Clone, Copy)]
@@ -52,29 +52,29 @@ impl<'a> MessageReader<'a> {
         let place = place(i);
         let values = self.values(i);
         match kind {
-            OUT => Some(Series::Trade {
+            1 => Some(Series::Trade {
                 place,
                 direction: Direction::Out,
                 counter,
                 values,
             }),
-            IN => Some(Series::Trade {
+            2 => Some(Series::Trade {
                 place,
                 direction: Direction::In,
                 counter,
                 values,
             }),
-            CONS => Some(Series::Forecast {
+            3 => Some(Series::Forecast {
                 place,
                 kind: ForecastKind::Cons,
                 values,
             }),
-            PROD => Some(Series::Forecast {
+            4 => Some(Series::Forecast {
                 place,
                 kind: ForecastKind::Prod,
                 values,
             }),
-            PUMP => Some(Series::Forecast {
+            5 => Some(Series::Forecast {
                 place,
                 kind: ForecastKind::Pump,
                 values,

@@ -1,6 +1,5 @@
 //! Which values a message may have.
 ghost use Rattle.std.specs.Prelude.{◌≡◌, ◌<◌, is_ok, Some};
-ghost use Rattle.forms.specs.Slots.{out_kind, in_kind};
 ghost use Rattle.message.specs.Form.{Formed, series_count, kind_at, counter_at};
 ghost use Rattle.message.specs.Places.{place_under};
 ghost use Rattle.message.specs.Told.{is_forecast};
@@ -10,13 +9,18 @@ use crate::{Head, MessageReader, place};
 use forms::bounds::POWER_BOUND;
 use forms::bytes::be32_at;
 use forms::fault::Fault;
-use forms::slot::{CONS, IN, OUT, PUMP};
 
-/// Whether a series of this kind is a forecast.
+/// The kind of a trade out.
+const OUT: u8 = 1;
+
+/// The kind of a trade in.
+const IN: u8 = 2;
+
+/// Kinds 3 to 5 are forecasts.
 fn is_forecast(kind: u8) -> bool
     ensures { result ≡ is_forecast kind }
 {
-    matches!(kind, CONS..=PUMP)
+    matches!(kind, 3..=5)
 }
 
 impl<'a> MessageReader<'a> {
@@ -78,8 +82,8 @@ impl<'a> MessageReader<'a> {
     fn is_unopposed(&self, i: u8, opposite: u8) -> bool
         requires formed { Formed self.now.quarters self.now.bytes.now }
         requires there { (i < series_count self.now.bytes.now) × (opposite < series_count self.now.bytes.now) }
-        requires out { kind_at self.now.bytes.now i ≡ out_kind }
-        requires into { place_under self.now.bytes.now in_kind (counter_at self.now.bytes.now i) ≡ Some opposite }
+        requires out { kind_at self.now.bytes.now i ≡ 1 }
+        requires into { place_under self.now.bytes.now 2 (counter_at self.now.bytes.now i) ≡ Some opposite }
         ensures { result ≡ is_ok (in_series self.now.quarters (opposed_check self.now.quarters self.now.bytes.now) i) }
     {
         let out = self.values(i);

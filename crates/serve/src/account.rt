@@ -2,9 +2,6 @@
 use crate::run;
 use std::{env, io};
 
-/// The most groups that the program serves.
-const GROUPS_SERVED: u8 = 8;
-
 const HELP: &str = "\
 Keeps the account of 2 to 8 balance groups for one control area.
 
@@ -38,10 +35,7 @@ pub fn account(rt: &HostRuntime) -> io::Result<()> {
         return refuse(rt);
     };
     match arguments.nth(1) {
-        None => {
-            run(rt, GROUPS_SERVED)?;
-            Ok(())
-        }
+        None => run(rt),
         Some(first) if first.as_str() == "--help" => rt.print(HELP),
         Some(_) => refuse(rt),
     }

@@ -1,12 +1,14 @@
 //! Reads frames from standard input and prints what the session answers. A frame that is cut short or
 //! announces too long a body stops the session here; every other decision is the session's.
-ghost use Rattle.std.specs.Prelude.{◌≡◌, ◌+◌, ◌≤◌, IfOk, nat_le};
+#![tactic(auto)]
+
+ghost use Rattle.std.specs.Prelude.{◌≡◌, ◌+◌, ◌≤◌, IfOk, IfSome, nat_le};
 ghost use Rattle.serve.specs.Capacity.{capacity};
 
 use input_buffer::InputBuffer;
 use session::frame::{FRAME_HEAD, body_length};
 use session::reply::Reply;
-use session::session::Session;
+use session::session::{MOST_GROUPS, Session};
 use std::alloc::Global;
 use std::io;
 use std::io::{BufWriter, Read, Write};
@@ -47,6 +49,24 @@ fn wait_for<R: Read + Drop, W: Write + Drop>(
     input.fill(wanted)
 }
 
+/// Waits for the body of a frame, which follows its head, and answers its length, or nothing where the
+/// head announces too much or the body is cut short.
+fn read_body<R: Read + Drop, W: Write + Drop>(
+    input: &mut InputBuffer<R>,
+    output: &mut BufWriter<W>,
+    head: [u8; FRAME_HEAD],
+) -> io::Result<Option<usize>>
+    ensures { IfOk result (λ o. IfSome o (λ n. input.new.start + (5 + n) ≤ input.new.end)) }
+{
+    let Some(size) = body_length(head) else {
+        return Ok(None);
+    };
+    if !wait_for(input, output, FRAME_HEAD + size)? {
+        return Ok(None);
+    }
+    Ok(Some(size))
+}
+
 /// Takes the next frame and answers the session's reply to it, or nothing where the input has ended.
 fn take_frame<R: Read + Drop, W: Write + Drop>(
     heap: Global,
@@ -62,13 +82,10 @@ fn take_frame<R: Read + Drop, W: Write + Drop>(
     }
     let mut head = [0u8; FRAME_HEAD];
     head.copy_from_slice(input.front(FRAME_HEAD));
-    let Some(size) = body_length(head) else {
+    let Some(size) = read_body(input, output, head)? else {
         return Ok(Some(Reply::Stop));
     };
     let length = FRAME_HEAD + size;
-    if !wait_for(input, output, length)? {
-        return Ok(Some(Reply::Stop));
-    }
     let body = &input.front(length)[FRAME_HEAD..];
     let reply = session.step(heap, head[0], body)?;
     input.consume(length);
@@ -94,11 +111,17 @@ fn take_frames<R: Read + Drop, W: Write + Drop>(
     Ok(())
 }
 
+/// A whole session on the standard streams, for the eight groups that the program `account` serves.
+pub fn run(rt: &HostRuntime) -> io::Result<()> {
+    run_for(rt, MOST_GROUPS)?;
+    Ok(())
+}
+
 /// A whole session on the standard streams, for at most so many groups, as its last frame left it.
-pub fn run(rt: &HostRuntime, most: u8) -> io::Result<Session> {
+pub fn run_for(rt: &HostRuntime, most: u8) -> io::Result<Session> {
     let mut input = InputBuffer::new(rt.alloc(), rt.stdin())?;
     let mut output = BufWriter::new(rt.alloc(), rt.stdout())?;
-    let mut session = Session::new(rt.alloc(), most);
+    let mut session = Session::serving(rt.alloc(), most);
     take_frames(rt.alloc(), &mut input, &mut output, &mut session)?;
     output.flush()?;
     Ok(session)

@@ -1,7 +1,6 @@
 -- What a frame does to a session.
-use Rattle.std.specs.Prelude.{ℕ, cond, ◌&&◌, List, length, replicate, is_some, Some, None, Ok, Err, Option, Result, ◌==◌, nat_le, nat_lt}
+use Rattle.std.specs.Prelude.{ℕ, min, cond, ◌&&◌, List, length, replicate, is_some, Some, None, Ok, Err, Option, Result, ◌==◌, nat_le, nat_lt}
 use Rattle.forms.specs.declared.fault.Fault.{Fault}
-use Rattle.forms.specs.Bounds.{most_groups}
 use Rattle.forms.specs.Bytes.{byte}
 use Rattle.forms.specs.Checks.{Verdict}
 use Rattle.stage.specs.Asked.{rule_asked}
@@ -10,55 +9,74 @@ use Rattle.book.specs.Calls.{Place, submits, advances, closes}
 use Rattle.book.specs.Opens.{opened_by}
 use Rattle.book.specs.Rows.{no_row}
 use Rattle.session.specs.Replies.{Told, stop, refused, done, plainly, message_told, close_told}
-use Rattle.session.specs.Stops.{stops}
+use Rattle.session.specs.Stops.{stops_for}
 use Rattle.session.specs.Views.{Meaning, SessionState}
 
 -- R: a rule
 abbrev pub rule_made : SessionState → Result Meaning Fault → Told × SessionState
-rule_made s (Ok m) = (done, record { most = s.most; rule = Some m; place = s.place; sheet = s.sheet; rows = s.rows })
+rule_made s (Ok m) = (done, record { rule = Some m; place = s.place; sheet = s.sheet; rows = s.rows })
 rule_made s (Err e) = (refused e, s)
 
--- O: a book under the rule, on a sheet and rows for the groups that the form names; a book has no more than 16
+-- O: a book under the rule, on a sheet and rows for the groups that the form names, as far as they are served: at most so
+-- many, and never more than the 16 that a book can have
+abbrev pub groups_served_for : ℕ → List ℕ → ℕ
+groups_served_for most body = cond (nat_lt 0 (length body) && nat_le (byte body 0) (min most 16)) (byte body 0) 0
+
+abbrev pub if_opened_for : ℕ → SessionState → List ℕ → Verdict × Place Meaning × List ℕ → Told × SessionState
+if_opened_for most s body (Ok _, place, sheet) =
+    (done, record { rule = s.rule; place = place; sheet = sheet; rows = replicate (groups_served_for most body) no_row })
+if_opened_for most s body (Err e, place, sheet) = (refused e, s)
+
+abbrev pub book_opened_for : ℕ → Meaning → SessionState → List ℕ → Told × SessionState
+book_opened_for most m s body = if_opened_for most s body (opened_by s.place m body (replicate (sheet_size (groups_served_for most body)) 0))
+
+-- the same where the program serves eight groups
 abbrev pub groups_served : List ℕ → ℕ
-groups_served body = cond (nat_lt 0 (length body) && nat_le (byte body 0) most_groups) (byte body 0) 0
+groups_served body = groups_served_for 8 body
 
 abbrev pub if_opened : SessionState → List ℕ → Verdict × Place Meaning × List ℕ → Told × SessionState
-if_opened s body (Ok _, place, sheet) = (done, record { most = s.most; rule = s.rule; place = place; sheet = sheet; rows = replicate (groups_served body) no_row })
-if_opened s body (Err e, place, sheet) = (refused e, s)
+if_opened s body opened = if_opened_for 8 s body opened
 
 abbrev pub book_opened : Meaning → SessionState → List ℕ → Told × SessionState
-book_opened m s body = if_opened s body (opened_by s.place m body (replicate (sheet_size (groups_served body)) 0))
+book_opened m s body = book_opened_for 8 m s body
 
 -- S: a message
 abbrev pub message_sent : SessionState → List ℕ → Told × SessionState
 message_sent s body =
     let o = submits s.place s.sheet body in
-    (message_told o.0, record { most = s.most; rule = s.rule; place = o.1; sheet = o.2; rows = s.rows })
+    (message_told o.0, record { rule = s.rule; place = o.1; sheet = o.2; rows = s.rows })
 
 -- A: an advance
 abbrev pub phase_moved : SessionState → Told × SessionState
 phase_moved s =
     let o = advances (λ m. m) s.place s.sheet in
-    (plainly o.0, record { most = s.most; rule = s.rule; place = o.1; sheet = s.sheet; rows = s.rows })
+    (plainly o.0, record { rule = s.rule; place = o.1; sheet = s.sheet; rows = s.rows })
 
 -- C: a close
 abbrev pub day_ended : SessionState → List ℕ → Told × SessionState
 day_ended s body =
     let o = closes (λ m. m) s.place (record { sheet = s.sheet; rows = s.rows }) body in
-    (close_told o.0, record { most = s.most; rule = s.rule; place = o.1; sheet = o.2.sheet; rows = o.2.rows })
+    (close_told o.0, record { rule = s.rule; place = o.1; sheet = o.2.sheet; rows = o.2.rows })
 
-abbrev by_rule : Option Meaning → SessionState → List ℕ → Told × SessionState
-by_rule (Some m) s body = book_opened m s body
-by_rule None s body = (stop, s)
+abbrev by_rule : ℕ → Option Meaning → SessionState → List ℕ → Told × SessionState
+by_rule most (Some m) s body = book_opened_for most m s body
+by_rule most None s body = (stop, s)
 
 -- the letters are R, O, S, A and C
-abbrev pub taken_by_letter : SessionState → ℕ → List ℕ → Told × SessionState
-taken_by_letter s letter body =
+abbrev pub taken_for : ℕ → SessionState → ℕ → List ℕ → Told × SessionState
+taken_for most s letter body =
     cond (letter == 82) (rule_made s (rule_asked body))
-    (cond (letter == 79) (by_rule s.rule s body)
+    (cond (letter == 79) (by_rule most s.rule s body)
     (cond (letter == 83) (message_sent s body)
     (cond (letter == 65) (phase_moved s) (day_ended s body))))
 
 -- what is told, and the session afterwards; where it stops, nothing changes
+abbrev pub stepped_for : ℕ → SessionState → ℕ → List ℕ → Told × SessionState
+stepped_for most s letter body = cond (stops_for most (is_some s.rule) (is_some s.place) letter body) (stop, s) (taken_for most s letter body)
+
+-- the same where the program serves eight groups
+abbrev pub taken_by_letter : SessionState → ℕ → List ℕ → Told × SessionState
+taken_by_letter s letter body = taken_for 8 s letter body
+
 abbrev pub stepped : SessionState → ℕ → List ℕ → Told × SessionState
-stepped s letter body = cond (stops s.most (is_some s.rule) (is_some s.place) letter body) (stop, s) (taken_by_letter s letter body)
+stepped s letter body = stepped_for 8 s letter body

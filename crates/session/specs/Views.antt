@@ -6,14 +6,13 @@ use Rattle.stage.specs.Asked.{meaning_of}
 use Rattle.book.specs.Calls.{Place}
 use Rattle.book.specs.Opens.{held_in}
 use Rattle.book.specs.Rows.{Row, row_of}
+use Rattle.book.specs.States.{State}
 use Rattle.session.specs.declared.session.Session.{Session}
 
 abbrev pub Meaning : Type 0
 Meaning = List Bool → ℕ
 
 pub record SessionState : Type 0 where
-  -- the most groups that the program serves
-  pub most : ℕ
   -- the rule, once one is accepted
   pub rule : Option Meaning
   -- the book, once one is open
@@ -28,4 +27,4 @@ by_meaning None = None
 by_meaning (Some p) = Some (meaning_of p.0, p.1)
 
 abbrev pub view_of : Session → SessionState
-view_of s = record { most = s.most; rule = option_map meaning_of s.rule; place = by_meaning (held_in s.book.inner); sheet = vec_items s.sheet; rows = map row_of (vec_items s.rows) }
+view_of s = record { rule = option_map meaning_of s.rule; place = by_meaning (held_in s.book.inner); sheet = vec_items s.sheet; rows = map row_of (vec_items s.rows) }

@@ -6,7 +6,7 @@ ghost use Rattle.session.specs.Frames.{body_of, frame_head};
 pub const FRAME_HEAD: usize = 5;
 
 /// The longest body of a frame.
-const LONGEST_BODY: u32 = 12_746;
+pub const LONGEST_BODY: u32 = 12_746;
 
 /// The length of the body that a frame's head announces, or nothing where that is too long.
 pub fn body_length(head: [u8; FRAME_HEAD]) -> Option<usize>

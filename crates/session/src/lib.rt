@@ -1,4 +1,6 @@
 //! A session: frames in, replies out.
+#![tactic(auto)]
+
 pub mod frame;
 pub mod questions;
 pub mod reply;

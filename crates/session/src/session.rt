@@ -3,6 +3,9 @@ use book::book::Book;
 use book::result_row::ResultRow;
 use stage::any_rule::AnyRule;
 
+/// The most groups that the program `account` serves.
+pub const MOST_GROUPS: u8 = 8;
+
 /// How many groups the program serves, the rule, the book, and what the session lends it: the sheet
 /// and the result rows.
 #[derive(Drop)]

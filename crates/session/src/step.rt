@@ -1,30 +1,35 @@
 //! One frame after another.
 ghost use Rattle.std.specs.Prelude.{◌≡◌, ◌≤◌, [], map, replicate, is_some, IfOk, None, MatchResult};
-ghost use Rattle.forms.specs.Bounds.{most_groups};
 ghost use Rattle.stage.specs.Asked.{meaning_of, rule_asked};
 ghost use Rattle.settlement.specs.Sheets.{sheet_size};
 ghost use Rattle.book.specs.Rows.{row_of, no_row};
 ghost use Rattle.session.specs.Replies.{told_by, plainly};
-ghost use Rattle.session.specs.Steps.{groups_served, rule_made, book_opened, message_sent, phase_moved, day_ended, stepped};
-ghost use Rattle.session.specs.Stops.{stops, too_many_groups};
+ghost use Rattle.session.specs.Steps.{groups_served_for, rule_made, book_opened_for, message_sent, phase_moved, day_ended, stepped_for};
+ghost use Rattle.session.specs.Stops.{stops_for, too_many_for, too_many_groups};
 ghost use Rattle.session.specs.Views.{view_of};
 
 use crate::reply::Reply;
-use crate::session::Session;
+use crate::session::{MOST_GROUPS, Session};
 use book::book::Book;
 use book::result_row::ResultRow;
-use forms::bounds::MOST_GROUPS;
 use forms::fault::Fault;
 use settlement::sheet::sheet_size;
 use stage::any_rule::{AnyRule, rule};
 use std::alloc::{AllocError, Global};
 
-/// Whether an opening form is for more groups than the program serves, which are at most `most`.
-pub fn too_many_groups(most: u8, body: &[u8]) -> bool
-    ensures { result ≡ too_many_groups most body.now }
+/// Whether an opening form is for more groups than the program `account` serves.
+pub fn too_many_groups(body: &[u8]) -> bool
+    ensures { result ≡ too_many_groups body.now }
+{
+    too_many_for(MOST_GROUPS, body)
+}
+
+/// Whether an opening form is for more groups than a program serves, which are at most `most`.
+fn too_many_for(most: u8, body: &[u8]) -> bool
+    ensures { result ≡ too_many_for most body.now }
 {
     match body {
-        [groups, ..] => *groups > most && *groups as usize <= MOST_GROUPS,
+        [groups, ..] => *groups > most && *groups <= 16,
         _ => false,
     }
 }
@@ -38,20 +43,20 @@ fn told(answer: Result<(), Fault>) -> Reply
     }
 }
 
-/// The groups of an opening form, 0 where no book has so many.
-fn groups_served(body: &[u8]) -> usize
-    ensures value { result ≡ groups_served body.now }
-    ensures few { result ≤ most_groups }
+/// The groups of an opening form, 0 where a program for at most `most` groups serves none such.
+fn groups_served(most: u8, body: &[u8]) -> usize
+    ensures value { result ≡ groups_served_for most body.now }
+    ensures few { result ≤ 16 }
 {
     match body {
-        [groups, ..] if *groups as usize <= MOST_GROUPS => *groups as usize,
+        [groups, ..] if *groups <= most.min(16) => *groups as usize,
         _ => 0,
     }
 }
 
 /// A sheet for so many groups, with zero everywhere.
 fn blank_sheet(heap: Global, groups: usize) -> Result<Vec<u32>, AllocError>
-    requires { groups ≤ most_groups }
+    requires { groups ≤ 16 }
     ensures { IfOk result (λ v. v.items ≡ replicate (sheet_size groups) 0) }
 {
     vec![in heap; 0u32; sheet_size(groups)]
@@ -65,9 +70,18 @@ fn blank_rows(heap: Global, groups: usize) -> Result<Vec<ResultRow>, AllocError>
 }
 
 impl Session {
+    /// A session before its first frame, for the eight groups that the program `account` serves.
+    pub fn new(heap: Global) -> Session
+        ensures view { view_of result ≡ record { rule = None; place = None; sheet = []; rows = [] } }
+        ensures most { result.most ≡ 8 }
+    {
+        Session::serving(heap, MOST_GROUPS)
+    }
+
     /// A session before its first frame, for at most so many groups.
-    pub fn new(heap: Global, most: u8) -> Session
-        ensures { view_of result ≡ record { most = most; rule = None; place = None; sheet = []; rows = [] } }
+    pub fn serving(heap: Global, most: u8) -> Session
+        ensures view { view_of result ≡ record { rule = None; place = None; sheet = []; rows = [] } }
+        ensures most { result.most ≡ most }
     {
         Session {
             most,
@@ -78,7 +92,7 @@ impl Session {
         }
     }
 
-    /// The result rows of the last close; before the first, rows with nothing in them.
+    /// The result rows of the last close.
     pub fn rows(&self) -> &[ResultRow]
         ensures { map row_of result.now ≡ (view_of self.now).rows }
     {
@@ -87,13 +101,13 @@ impl Session {
 
     /// Whether the frame ends the session.
     fn stops(&self, letter: u8, body: &[u8]) -> bool
-        ensures { result ≡ stops (view_of self.now).most (is_some (view_of self.now).rule) (is_some (view_of self.now).place) letter body.now }
+        ensures { result ≡ stops_for self.now.most (is_some (view_of self.now).rule) (is_some (view_of self.now).place) letter body.now }
     {
         let ruled = self.rule.is_some();
         let opened = self.book.is_open();
         match letter {
             b'R' => ruled,
-            b'O' => !ruled || opened || too_many_groups(self.most, body),
+            b'O' => !ruled || opened || too_many_for(self.most, body),
             b'S' | b'C' => !opened,
             b'A' => !opened || body.len() > 0,
             _ => true,
@@ -101,7 +115,8 @@ impl Session {
     }
 
     fn make_rule(&mut self, body: &[u8]) -> Reply
-        ensures { (told_by result, view_of self.new) ≡ rule_made (view_of self.old) (rule_asked body.now) }
+        ensures answer { (told_by result, view_of self.new) ≡ rule_made (view_of self.old) (rule_asked body.now) }
+        ensures most { self.new.most ≡ self.old.most }
     {
         match rule(body) {
             Ok(made) => {
@@ -113,9 +128,10 @@ impl Session {
     }
 
     fn open(&mut self, heap: Global, chosen: AnyRule, body: &[u8]) -> Result<Reply, AllocError>
-        ensures { MatchResult result (λ reply. (told_by reply, view_of self.new) ≡ book_opened (meaning_of chosen) (view_of self.old) body.now) (λ _. view_of self.new ≡ view_of self.old) }
+        ensures answer { MatchResult result (λ reply. (told_by reply, view_of self.new) ≡ book_opened_for self.old.most (meaning_of chosen) (view_of self.old) body.now) (λ _. view_of self.new ≡ view_of self.old) }
+        ensures most { self.new.most ≡ self.old.most }
     {
-        let groups = groups_served(body);
+        let groups = groups_served(self.most, body);
         let mut sheet = blank_sheet(heap, groups)?;
         let rows = blank_rows(heap, groups)?;
         match self.book.open(chosen, body, &mut sheet) {
@@ -129,7 +145,8 @@ impl Session {
     }
 
     fn submit(&mut self, body: &[u8]) -> Reply
-        ensures { (told_by result, view_of self.new) ≡ message_sent (view_of self.old) body.now }
+        ensures answer { (told_by result, view_of self.new) ≡ message_sent (view_of self.old) body.now }
+        ensures most { self.new.most ≡ self.old.most }
     {
         match self.book.submit(body, &mut self.sheet) {
             Ok(answer) => Reply::Taken(answer),
@@ -138,13 +155,15 @@ impl Session {
     }
 
     fn advance(&mut self) -> Reply
-        ensures { (told_by result, view_of self.new) ≡ phase_moved (view_of self.old) }
+        ensures answer { (told_by result, view_of self.new) ≡ phase_moved (view_of self.old) }
+        ensures most { self.new.most ≡ self.old.most }
     {
         told(self.book.advance(&self.sheet))
     }
 
     fn close(&mut self, body: &[u8]) -> Reply
-        ensures { (told_by result, view_of self.new) ≡ day_ended (view_of self.old) body.now }
+        ensures answer { (told_by result, view_of self.new) ≡ day_ended (view_of self.old) body.now }
+        ensures most { self.new.most ≡ self.old.most }
     {
         match self.book.close(body, &mut self.sheet, &mut self.rows) {
             Ok(()) => Reply::Closed,
@@ -154,7 +173,8 @@ impl Session {
 
     /// Takes one frame and answers it. Want of memory, met only by an opening form, changes nothing.
     pub fn step(&mut self, heap: Global, letter: u8, body: &[u8]) -> Result<Reply, AllocError>
-        ensures { MatchResult result (λ reply. (told_by reply, view_of self.new) ≡ stepped (view_of self.old) letter body.now) (λ _. view_of self.new ≡ view_of self.old) }
+        ensures answer { MatchResult result (λ reply. (told_by reply, view_of self.new) ≡ stepped_for self.old.most (view_of self.old) letter body.now) (λ _. view_of self.new ≡ view_of self.old) }
+        ensures most { self.new.most ≡ self.old.most }
     {
         if self.stops(letter, body) {
             return Ok(Reply::Stop);

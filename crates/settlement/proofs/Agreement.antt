@@ -1,10 +1,11 @@
 -- Where two days' statements agree, so do their trades, positions and amounts.
-use Rattle.std.proofs.Common.{◌≡◌, ℕ, ◌<◌, cond, eqb, pos, ◌-ℤ◌, refl, ap}
+use Rattle.std.proofs.Common.{◌≡◌, ℕ, ◌<◌, cond, eqb, ℤ, pos, ◌+ℤ◌, ◌-ℤ◌, refl, ap}
 use Rattle.forms.specs.Figures.{GroupFigures}
 use Rattle.forms.specs.Slots.{Slot, out_to, in_from, cons}
 use Rattle.settlement.specs.declared.phase.Phase.TheVariants.{After}
 use Rattle.settlement.specs.Sheets.{Statements, Within}
 use Rattle.settlement.specs.Positions.{confirmed, confirmed_with, stated_with, net_purchases, stated_open, confirmed_open, excess, day_excess}
+use Rattle.settlement.specs.Amounts.{imbalance_cost, day_cost}
 use Rattle.settlement.proofs.Sums.{sumℕ-same, sumℤ-same}
 
 -- the same statements of the g groups at quarter hour t
@@ -45,3 +46,11 @@ module _ (g : ℕ) (S S' : Statements) where
   day_excess_same f a q h l =
       sumℕ-same (λ t. excess f After (confirmed_open S f g t a)) (λ t. excess f After (confirmed_open S' f g t a)) q
       (λ t k. ap (excess f After) (confirmed_open_same f t a (h t k) l))
+
+  pub day_cost_same : (a : ℕ) (feed long short : ℕ → ℤ) (q : ℕ) → ((t : ℕ) → t < q → Agree g S S' t) → a < g → day_cost S g a feed long short q ≡ day_cost S' g a feed long short q
+  unfolding day_cost
+  day_cost_same a feed long short q h l =
+      sumℤ-same (λ t. imbalance_cost (net_purchases S g t a +ℤ feed t) (long t) (short t))
+      (λ t. imbalance_cost (net_purchases S' g t a +ℤ feed t) (long t) (short t))
+      q
+      (λ t k. ap (λ z. imbalance_cost (z +ℤ feed t) (long t) (short t)) (net_purchases_same t a (h t k) l))

@@ -1,6 +1,9 @@
 pub mod Places
 pub mod Sums
 pub mod Adding
+pub mod Signs
 pub mod Trading
 pub mod Excesses
 pub mod Agreement
+pub mod Laws
+pub mod BenchSettlement

@@ -2,3 +2,6 @@ pub mod Sheets
 pub mod Sums
 pub mod Days
 pub mod Positions
+pub mod Amounts
+pub mod Laws
+pub mod BenchSettlement

@@ -2,7 +2,6 @@
 use Rattle.std.specs.Prelude.{◌≡◌, ℕ, ◌+◌, ◌-◌, ◌*◌, ◌<◌, ◌≤◌, Bool, false, cond, List, length, Some, None, Option, ◌==◌, nat_lt, slice_index, slice_index_or}
 use Rattle.std.specs.Option.{unwrap_or}
 use Rattle.forms.specs.Slots.{Slot, out_to, in_from, cons, prod, pump}
-use Rattle.forms.specs.Bounds.{most_groups}
 
 -- words of a slot, one for each quarter hour of the longest day
 abbrev pub words_per_slot : ℕ
@@ -59,6 +58,6 @@ on_sheet g sent words a s t = unwrap_or (held sent words (slot_place g a s) t) 0
 
 -- a sheet and its presence flags for g groups
 pub record SheetOf (g : ℕ) (sent : List Bool) (words : List ℕ) : Type 0 where
-  pub few : g ≤ most_groups
+  pub few : g ≤ 16
   pub flags : g * slots g ≤ length sent
   pub room : length words ≡ sheet_size g

@@ -1,6 +1,10 @@
-//! Trades, positions and excesses out of the sheet.
+//! Positions, penalties and balance amounts out of the sheet.
+#![tactic(auto)]
+
+pub mod amounts;
 pub mod day;
 pub mod phase;
 pub mod positions;
 pub mod sheet;
+pub mod theorems;
 pub mod trades;

@@ -28,7 +28,7 @@ pub fn open_position(figures: &Group, value: i64) -> i64
 }
 
 /// The limit that applies to an open position in a phase.
-fn limit_for(figures: &Group, phase: Phase, position: i64) -> u32
+pub fn limit_for(figures: &Group, phase: Phase, position: i64) -> u32
     ensures { result ≡ limit_for (figures_of figures.now) phase position }
 {
     let _ = position;
@@ -72,6 +72,17 @@ impl Sheet<'_, '_> {
             open_position(figures, confirmed - consumption),
             confirmed,
         )
+    }
+
+    /// Group `a`'s open position by its own series.
+    pub fn stated_open(&self, figures: &Group, a: usize, t: usize) -> i64
+        requires sheet { SheetOf self.now.groups self.now.sent.now self.now.words.now }
+        requires within { (a < self.now.groups) × (t < words_per_slot) }
+        ensures value { result ≡ stated_open (on_sheet self.now.groups self.now.sent.now self.now.words.now) (figures_of figures.now) self.now.groups t a }
+        ensures bound { unsigned_abs result ≤ 2 ^ 37 }
+    {
+        let consumption = i64::from(self.value(a, Slot::Cons, t));
+        open_position(figures, self.stated(a, t) - consumption)
     }
 
     /// The sum of the excesses of group `a`'s confirmed open position over the day's `q` quarter hours.

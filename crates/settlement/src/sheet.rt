@@ -1,7 +1,6 @@
 //! The sheet of words and what stands in it. Groups and quarter hours count from 0.
 ghost use Rattle.std.specs.Prelude.{◌≡◌, ◌*◌, ◌<◌, ◌≤◌};
 ghost use Rattle.forms.specs.Slots.{slot_of};
-ghost use Rattle.forms.specs.Bounds.{most_groups};
 ghost use Rattle.settlement.specs.Sheets.{words_per_slot, slots, sheet_size, slot_number, slot_place, Within, SlotsApart, held, on_sheet, SheetOf};
 
 use forms::slot::Slot;
@@ -11,7 +10,7 @@ pub const WORDS_PER_SLOT: usize = 96;
 
 /// How many slots each of `groups` groups owns.
 pub fn slots_per_group(groups: usize) -> usize
-    requires { groups ≤ most_groups }
+    requires { groups ≤ 16 }
     ensures { result ≡ slots groups }
 {
     2 * groups + 3
@@ -19,7 +18,7 @@ pub fn slots_per_group(groups: usize) -> usize
 
 /// How many words the sheet of `groups` groups has.
 pub fn sheet_size(groups: usize) -> usize
-    requires { groups ≤ most_groups }
+    requires { groups ≤ 16 }
     ensures { result ≡ sheet_size groups }
 {
     groups * slots_per_group(groups) * WORDS_PER_SLOT
@@ -27,7 +26,7 @@ pub fn sheet_size(groups: usize) -> usize
 
 // The place of a slot among its group's.
 fn slot_number(groups: usize, slot: Slot) -> usize
-    requires { (groups ≤ most_groups) × (Within groups (slot_of slot)) }
+    requires { (groups ≤ 16) × (Within groups (slot_of slot)) }
     ensures value { result ≡ slot_number groups (slot_of slot) }
     ensures bound { result < slots groups }
 {
@@ -41,8 +40,8 @@ fn slot_number(groups: usize, slot: Slot) -> usize
 }
 
 /// The place of a group's slot among all slots of the sheet.
-pub(crate) fn slot_place(groups: usize, group: usize, slot: Slot) -> usize
-    requires { (groups ≤ most_groups) × ((group < groups) × (Within groups (slot_of slot))) }
+pub fn slot_place(groups: usize, group: usize, slot: Slot) -> usize
+    requires { (groups ≤ 16) × ((group < groups) × (Within groups (slot_of slot))) }
     ensures value { result ≡ slot_place groups group (slot_of slot) }
     ensures bound { result < groups * slots groups }
 {
@@ -77,7 +76,7 @@ impl<'s, 'w> Sheet<'s, 'w> {
     }
 
     /// What a group has sent in a slot for the quarter hour `t`, if it has.
-    fn held(&self, group: usize, slot: Slot, t: usize) -> Option<u32>
+    pub fn held(&self, group: usize, slot: Slot, t: usize) -> Option<u32>
         requires sheet { SheetOf self.now.groups self.now.sent.now self.now.words.now }
         requires within { (group < self.now.groups) × ((Within self.now.groups (slot_of slot)) × (t < words_per_slot)) }
         ensures { result ≡ held self.now.sent.now self.now.words.now (slot_place self.now.groups group (slot_of slot)) t }
@@ -91,7 +90,7 @@ impl<'s, 'w> Sheet<'s, 'w> {
     }
 
     /// What a group has sent in a slot for the quarter hour `t`; a slot not sent counts as zero.
-    pub(crate) fn value(&self, group: usize, slot: Slot, t: usize) -> u32
+    pub fn value(&self, group: usize, slot: Slot, t: usize) -> u32
         requires sheet { SheetOf self.now.groups self.now.sent.now self.now.words.now }
         requires within { (group < self.now.groups) × ((Within self.now.groups (slot_of slot)) × (t < words_per_slot)) }
         ensures { result ≡ on_sheet self.now.groups self.now.sent.now self.now.words.now group (slot_of slot) t }

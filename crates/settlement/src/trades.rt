@@ -9,7 +9,7 @@ use forms::slot::Slot;
 
 /// A group's trades of a quarter hour, in less out: as it has stated them, and as they are confirmed.
 #[derive(Clone, Copy)]
-pub(crate) struct TradeSums {
+pub struct TradeSums {
     pub stated: i64,
     pub confirmed: i64,
 }
@@ -45,7 +45,7 @@ impl Sheet<'_, '_> {
     }
 
     /// The trades of group `a` with all other groups, in less out, by one pass.
-    pub(crate) fn sums(&self, a: usize, t: usize) -> TradeSums
+    pub fn sums(&self, a: usize, t: usize) -> TradeSums
         requires sheet { SheetOf self.now.groups self.now.sent.now self.now.words.now }
         requires within { (a < self.now.groups) × (t < words_per_slot) }
         ensures stated { result.stated ≡ stated_with (on_sheet self.now.groups self.now.sent.now self.now.words.now) t a self.now.groups }
@@ -63,5 +63,24 @@ impl Sheet<'_, '_> {
             confirmed += turn.confirmed;
         }
         TradeSums { stated, confirmed }
+    }
+
+    // The trades of group `a` as it has stated them itself, in less out.
+    pub(crate) fn stated(&self, a: usize, t: usize) -> i64
+        requires sheet { SheetOf self.now.groups self.now.sent.now self.now.words.now }
+        requires within { (a < self.now.groups) × (t < words_per_slot) }
+        ensures value { result ≡ stated_with (on_sheet self.now.groups self.now.sent.now self.now.words.now) t a self.now.groups }
+        ensures bound { unsigned_abs result ≤ 2 ^ 32 * self.now.groups }
+    {
+        let mut sum: i64 = 0;
+        for b in 0..self.groups {
+            if b == a {
+                continue;
+            }
+            let own_in = self.value(a, Slot::InFrom(b as u8), t);
+            let own_out = self.value(a, Slot::OutTo(b as u8), t);
+            sum += i64::from(own_in) - i64::from(own_out);
+        }
+        sum
     }
 }

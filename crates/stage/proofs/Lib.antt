@@ -1,2 +1,2 @@
-pub mod WorkedStages
+pub mod BenchStage
 mod Flags

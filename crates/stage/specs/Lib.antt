@@ -1,8 +1,9 @@
 pub mod Asked
-pub mod WorkedStages
+pub mod BenchStage
 pub mod Marked
 pub mod Rules
 pub mod Gaps
 pub mod Counts
 pub mod MarkLists
 pub mod Windows
+pub mod Lawful

@@ -1,10 +1,7 @@
 //! The rules that a rule form can ask for.
 ghost use Rattle.std.specs.Prelude.{◌≡◌};
 ghost use Rattle.stage.specs.Asked.{meaning_of, rule_asked, meaning_made};
-ghost use Rattle.std.proofs.Common.{arith};
-ghost use Rattle.stage.specs.declared.any_rule.AnyRule.TheVariants.{Rolling, Run};
-ghost use Rattle.stage.specs.Gaps.{run_le, run_under};
-ghost use Rattle.stage.specs.Windows.{rolling_le, rolling_under};
+ghost use Rattle.stage.specs.Lawful.{any_bounded, any_monotone};
 
 use crate::marks::Marks;
 use crate::rolling::Rolling;
@@ -23,15 +20,9 @@ pub enum AnyRule {
 impl StageRule for AnyRule {
     ghost meaning = { meaning_of };
 
-    ghost bounded = { elim [
-      | Rolling s ↦ λ xs h. omega (arith, rolling_le s.window xs)
-      | Run s ↦ λ xs h. omega (arith, run_le s.gap xs)
-    ] };
+    ghost bounded = { any_bounded };
 
-    ghost monotone = { elim [
-      | Rolling s ↦ λ xs ys _ h. rolling_under s.window xs ys h
-      | Run s ↦ λ xs ys _ h. run_under s.gap xs ys h
-    ] };
+    ghost monotone = { any_monotone };
 
     fn stage(&self, marks: &Marks) -> u16 {
         match self {

@@ -1,6 +1,5 @@
 //! What is asked of marks and done with them. Days count from 1.
 ghost use Rattle.std.specs.Prelude.{◌≡◌, ◌<◌, ◌≤◌, [], ◌∷◌, ◌++◌, length, take};
-ghost use Rattle.forms.specs.Calendar.{year_days};
 ghost use Rattle.stage.specs.Marked.{marks_of, on_day};
 
 use crate::marks::Marks;
@@ -19,14 +18,14 @@ impl Marks {
     /// How many days there are marks of.
     pub fn days(&self) -> u16
         ensures count { result ≡ length (marks_of self.now) }
-        ensures year { result ≤ year_days }
+        ensures year { result ≤ 366 }
     {
         self.days
     }
 
     /// Adds the mark of the next day, up to the 366th.
     pub fn push(&mut self, mark: bool)
-        requires { length (marks_of self.old) < year_days }
+        requires { length (marks_of self.old) < 366 }
         ensures { marks_of self.new ≡ marks_of self.old ++ mark ∷ [] }
     {
         let at = self.days as usize;

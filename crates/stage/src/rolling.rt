@@ -1,8 +1,7 @@
 //! The rule that looks back over a window of days.
 ghost use Rattle.std.specs.Prelude.{◌≡◌};
 ghost use Rattle.stage.specs.Rules.{rolling};
-ghost use Rattle.std.proofs.Common.{arith};
-ghost use Rattle.stage.specs.Windows.{rolling_le, rolling_under};
+ghost use Rattle.stage.specs.Lawful.{rolling_bounded, rolling_monotone};
 
 use crate::marks::Marks;
 use crate::rule::StageRule;
@@ -25,9 +24,9 @@ impl Rolling {
 impl StageRule for Rolling {
     ghost meaning = { λ s. rolling s.window };
 
-    ghost bounded = { λ s xs h. omega (arith, rolling_le s.window xs) };
+    ghost bounded = { rolling_bounded };
 
-    ghost monotone = { λ s xs ys _ h. rolling_under s.window xs ys h };
+    ghost monotone = { rolling_monotone };
 
     fn stage(&self, marks: &Marks) -> u16 {
         let last = marks.days();

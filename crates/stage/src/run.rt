@@ -1,8 +1,7 @@
 //! The rule that counts on until a gap.
 ghost use Rattle.std.specs.Prelude.{◌≡◌};
 ghost use Rattle.stage.specs.Rules.{run};
-ghost use Rattle.std.proofs.Common.{arith};
-ghost use Rattle.stage.specs.Gaps.{run_le, run_under};
+ghost use Rattle.stage.specs.Lawful.{run_bounded, run_monotone};
 
 use crate::marks::Marks;
 use crate::rule::StageRule;
@@ -25,9 +24,9 @@ impl Run {
 impl StageRule for Run {
     ghost meaning = { λ s. run s.gap };
 
-    ghost bounded = { λ s xs h. omega (arith, run_le s.gap xs) };
+    ghost bounded = { run_bounded };
 
-    ghost monotone = { λ s xs ys _ h. run_under s.gap xs ys h };
+    ghost monotone = { run_monotone };
 
     fn stage(&self, marks: &Marks) -> u16 {
         let mut count = 0;

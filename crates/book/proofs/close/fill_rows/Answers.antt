@@ -1,9 +1,11 @@
-use Rattle.std.proofs.Common.{◌≡◌, ℕ, ◌<◌, Bool, List, map, length, nat_abs, sym, ap, ◌∙◌, inl, inr, arith, w64, rules}
+use Rattle.std.proofs.Common.{◌≡◌, ℕ, ◌+◌, ◌<◌, ◌≤◌, Bool, List, map, length, get_or, take, set, nat_abs, sym, refl, ap, ◌∙◌, inl, inr, arith, w64, rules}
 use Rattle.std.proofs.lemmas.Int.{to_z-of_z}
 use Rattle.std.proofs.lemmas.List.{take_all, length-map, get_or_past}
 use Rattle.std.proofs.lemmas.Bool.{cases_lt}
-use Rattle.opening.proofs.Writes.{written_more, written_all}
-use Rattle.book.specs.Closes.{row_with, day_row, day_rows}
+use Rattle.std.specs.List.{range_with_len}
+use Rattle.forms.proofs.Writes.{written_more, written_all}
+use Rattle.book.specs.Closes.{row_with, day_row, day_rows, balance_today}
+use Rattle.book.specs.Kept.{most_balance}
 use Rattle.book.specs.Rows.{Row, row_of, amount_in}
 use Rattle.book.specs.States.{State, state_of, size}
 use Rattle.book.proofs.RowLists.{amounts_more}
@@ -18,10 +20,10 @@ loop-a-preserved g c =
     let m : List Bool → ℕ = g.R.StageRule.meaning c.args.rule.now in
     let xs = c.loop-a.rows in
     let a = c.loop-a.a in
-    let new = c.result-row.result in
+    let new = c.result_row.result in
     let within : a < length xs = omega (arith, c.loop-a.auto.rows, c.requires.rows, c.groups-a-end.ensures.value, c.loop-a-test.true) in
     let amount = to_z-of_z w64 c.balance.result (search rules) ∙ c.balance.ensures.value in
-    let is : row_of new ≡ day_row m s sheet form a = c.result-row.ensures ∙ ap (row_with m s a) amount in (
+    let is : row_of new ≡ day_row m s sheet form a = c.result_row.ensures ∙ ap (row_with m s a) amount in (
       written_more row_of (day_row m s sheet form) xs a new within is c.loop-a.invariant.0,
       amounts_more xs a new within (omega (arith, ap (λ (r : Row). nat_abs r.balance) is, ap nat_abs c.balance.ensures.value, c.balance.ensures.bound)) c.loop-a.invariant.1,
     )

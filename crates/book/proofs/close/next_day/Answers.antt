@@ -1,11 +1,12 @@
-use Rattle.std.proofs.Common.{◌≡◌, ◌+◌, ◌<◌, false, length, get_or, pos, nat_abs, sym, ap, ◌∙◌, arith, w64, to_z, of_z, rules}
+use Rattle.std.proofs.Common.{◌≡◌, ℕ, ◌+◌, ◌*◌, ◌<◌, ◌≤◌, false, List, map, length, get_or, take, set, ℤ, pos, nat_abs, sym, refl, ap, ◌∙◌, arith, w64, SFits, to_z, of_z, rules}
 use Rattle.std.proofs.lemmas.List.{length-set, take-map, get_or-map}
 use Rattle.std.proofs.lemmas.Int.{to_z-of_z}
-use Rattle.opening.proofs.Writes.{written_more, written_all}
+use Rattle.std.specs.List.{range_with_len}
+use Rattle.forms.proofs.Writes.{written_more, written_all}
 use Rattle.settlement.specs.declared.phase.Phase.TheVariants.{Ahead}
 use Rattle.book.specs.declared.result_row.ResultRow.{ResultRow}
 use Rattle.book.specs.Closes.{day_done, closed_group, day_closed}
-use Rattle.book.specs.Kept.{cut_offs, days_in, penalties_in, balance_in}
+use Rattle.book.specs.Kept.{cut_offs, days_in, penalties_in, balance_in, most_penalty, most_balance}
 use Rattle.book.specs.Rows.{Row, row_of, amount_in, balance_in_row}
 use Rattle.book.specs.States.{State, state_of, size, account_of, own_accounts}
 use Rattle.book.proofs.Accounts.{bounded_set}
@@ -14,8 +15,8 @@ use Rattle.book.proofs.close.next_day.Goals as goal
 abbrev no_row : ResultRow
 no_row = record { day = 0; group = 0; mark = false; stage = 0; penalty = 0; balance = pos 0 }
 
-pub day-done-requires : goal.day-done-requires
-day-done-requires c =
+pub day_done-requires : goal.day_done-requires
+day_done-requires c =
     let l = c.args.ledger.now in
     let rows = c.args.rows.now in
     let a = c.loop-a.a in
@@ -60,4 +61,4 @@ returns c =
     let groups =
     take-map account_of (size s) c.loop-a.accounts
     ∙ written_all account_of (closed_group s amounts) c.loop-a.accounts c.loop-a.a (size s) all c.loop-a.invariant.1 in
-    λ j. record { terms = s.terms; closed = s.closed + 1; phase = Ahead; sent = c.nothing-sent.ensures j; groups = groups j }
+    λ j. record { terms = s.terms; closed = s.closed + 1; phase = Ahead; sent = c.nothing_sent.ensures j; groups = groups j }

@@ -1,16 +1,16 @@
-use Rattle.std.proofs.Common.{◌≡◌, ℕ, ◌+◌, Bool, List, [], ◌∷◌, ◌++◌, length, sym, ap, ◌∙◌, arith, w64, SFits, to_z, of_z, rules}
+use Rattle.std.proofs.Common.{◌≡◌, ℕ, ◌+◌, ◌≤◌, Bool, ltb, List, [], ◌∷◌, ◌++◌, map, length, ℤ, sym, refl, ap, ◌∙◌, arith, w64, SFits, to_z, of_z, rules}
 use Rattle.std.proofs.lemmas.List.{length_push}
 use Rattle.std.proofs.lemmas.Int.{to_z-of_z}
-use Rattle.forms.specs.Figures.{RateFigures}
-use Rattle.opening.specs.Openings.{terms_in}
+use Rattle.forms.specs.Figures.{RateFigures, rates_of}
+use Rattle.forms.specs.Openings.{terms_in}
 use Rattle.stage.specs.Marked.{marks_of}
 use Rattle.stage.specs.MarkLists.{length_marks}
-use Rattle.amounts.specs.Amounts.{is_marked, row_for, penalty}
+use Rattle.settlement.specs.Amounts.{is_marked, row_for, penalty}
 use Rattle.book.proofs.Tariffs.{row_within, rows_there}
 use Rattle.book.proofs.cut_off.charge.Goals as goal
 
-pub row-for-requires : goal.row-for-requires
-row-for-requires g c = rows_there c.args.opening.now c.tariff.result.now c.tariff.ensures.told
+pub row_for-requires : goal.row_for-requires
+row_for-requires g c = rows_there c.args.opening.now c.tariff.result.now c.tariff.ensures.told
 
 pub penalty-due-requires : goal.penalty-due-requires
 penalty-due-requires g c =

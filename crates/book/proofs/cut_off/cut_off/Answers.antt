@@ -1,18 +1,22 @@
-use Rattle.std.proofs.Common.{◌≡◌, ℕ, ◌<◌, Bool, List, length, nat_abs, ap, ◌∙◌, arith}
+use Rattle.std.proofs.Common.{◌≡◌, ℕ, ◌+◌, ◌*◌, ◌<◌, ◌≤◌, Bool, List, map, length, get_or, take, set, nat_abs, sym, refl, ap, ◌∙◌, arith, rules}
 use Rattle.std.proofs.lemmas.List.{length-set, take-map}
-use Rattle.opening.proofs.Writes.{written_more, written_all}
+use Rattle.std.specs.List.{range_with_len}
+use Rattle.forms.specs.Openings.{terms_in}
+use Rattle.forms.proofs.OpeningLaws.{count_in}
+use Rattle.forms.proofs.Writes.{written_more, written_all}
 use Rattle.stage.specs.MarkLists.{length_marks}
+use Rattle.settlement.specs.declared.phase.Phase.{Phase}
 use Rattle.settlement.specs.declared.phase.Phase.TheVariants.{After}
 use Rattle.settlement.specs.Positions.{day_excess}
 use Rattle.settlement.specs.Sheets.{on_sheet}
 use Rattle.book.specs.Cuts.{charged, excess_today, past_cut_off, cut_off}
-use Rattle.book.specs.Kept.{cut_offs, days_in, penalties_in, balance_in}
+use Rattle.book.specs.Kept.{cut_offs, days_in, penalties_in, balance_in, most_penalty, most_balance}
 use Rattle.book.specs.States.{State, state_of, size, account_of, own_accounts}
-use Rattle.book.proofs.Accounts.{bounded_set}
+use Rattle.book.proofs.Accounts.{bounded_set, bounded_more}
 use Rattle.book.proofs.cut_off.cut_off.Goals as goal
 
-pub day-excess-energy-requires : goal.day-excess-energy-requires
-day-excess-energy-requires g c = record {
+pub day_excess-energy-requires : goal.day_excess-energy-requires
+day_excess-energy-requires g c = record {
   sheet = c.on-day.ensures.whole;
   within = (
     omega (arith, c.on-day.ensures.groups, c.groups-a-end.ensures.value),
@@ -28,7 +32,7 @@ charge-requires g c =
         omega (arith, length_marks c.account.result.marks, c.account.ensures.days, near, c.requires.near.1),
         omega (arith, c.account.ensures.penalties, near, c.requires.near.1),
       );
-      energy = omega (arith, c.day-excess-energy.ensures.bound, c.quarters-quarters.ensures.few);
+      energy = omega (arith, c.day_excess-energy.ensures.bound, c.quarters-quarters.ensures.few);
     }
 
 pub loop-a-preserved : goal.loop-a-preserved
@@ -48,8 +52,8 @@ loop-a-preserved g c =
     let words = c.on-day.ensures.words in
     let figures = c.figures.ensures in
     let quarters = c.quarters-quarters.ensures.value in
-    let energy : c.day-excess-energy.result ≡ excess_today s sheet a =
-    c.day-excess-energy.ensures.value
+    let energy : c.day_excess-energy.result ≡ excess_today s sheet a =
+    c.day_excess-energy.ensures.value
     ∙ (λ j. day_excess (on_sheet (groups j) (sent j) (words j)) (figures j) (groups j) a (quarters j)) in
     let is : account_of new ≡ past_cut_off m s sheet a =
     c.charge.ensures.value ∙ (λ j. charged m s.terms.tariff (c.account.ensures.value j) (energy j)) in (

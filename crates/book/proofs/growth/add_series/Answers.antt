@@ -5,17 +5,17 @@ use Rattle.message.proofs.Stated.{value_found, value_missing, found_under}
 use Rattle.settlement.proofs.Adding.{added_none, added_no, added_more, added_yes, low_more}
 use Rattle.book.proofs.growth.add_series.Goals as goal
 
-pub returns-in-default : goal.returns-in-default
-returns-in-default c = record {
-  value = λ t l. omega (arith, value_missing c.args.reader.now.quarters c.args.reader.now.bytes.now _ _ t (sym c.in-default.ensures.value));
+pub returns-in_default : goal.returns-in_default
+returns-in_default c = record {
+  value = λ t l. omega (arith, value_missing c.args.reader.now.quarters c.args.reader.now.bytes.now _ _ t (sym c.in_default.ensures.value));
   bound = λ t. omega arith;
 }
 
 pub loop-t-init : goal.loop-t-init
 loop-t-init c = (added_none _ _, λ k. omega arith)
 
-pub overflow-add-sums : goal.overflow-add-sums
-overflow-add-sums c =
+pub overflow_add-sums : goal.overflow_add-sums
+overflow_add-sums c =
     let before = c.loop-t.invariant.0 c.loop-t.t ∙ added_no _ _ _ _ (omega arith) in
     omega (arith, before, c.requires.room.1 c.loop-t.t)
 
@@ -24,13 +24,13 @@ loop-t-preserved c =
     let t = c.loop-t.t in
     let q = c.args.reader.now.quarters in
     let form = c.args.reader.now.bytes.now in
-    let added-now = c.from.ensures ∙ c.be32-at.ensures ∙ ap (λ v. be32 v (4 * t)) c.values-values.ensures ∙ value_of_bytes q form c.in-Some.i t (omega (arith, c.requires.formed.1.0)) in (
+    let added-now = c.from.ensures ∙ c.be32_at.ensures ∙ ap (λ v. be32 v (4 * t)) c.values-values.ensures ∙ value_of_bytes q form c.in-Some.i t (omega (arith, c.requires.formed.1.0)) in (
       added_more _ _ c.loop-t.sums t _ (omega arith) (ap (λ x. get_or c.loop-t.sums t 0 + x) added-now) c.loop-t.invariant.0,
       low_more _ _ c.loop-t.sums t c.from.result (2 ^ 32) (omega arith) (omega arith) c.loop-t.invariant.0 c.loop-t.invariant.1,
     )
 
-pub be32-at-requires : goal.be32-at-requires
-be32-at-requires c =
+pub be32_at-requires : goal.be32_at-requires
+be32_at-requires c =
     let q = c.args.reader.now.quarters in
     let form = c.args.reader.now.bytes.now in
     let there = (found_under form _ _ c.in-Some.i (sym c.in-Some.ensures.value)).there in

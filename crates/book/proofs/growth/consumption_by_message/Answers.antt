@@ -2,11 +2,11 @@ use Rattle.std.proofs.Common.{refl, arith}
 use Rattle.settlement.proofs.Adding.{blank}
 use Rattle.book.proofs.growth.consumption_by_message.Goals as goal
 
-pub add-series-requires : goal.add-series-requires
-add-series-requires c = record { formed = c.requires; room = (refl, λ t. omega (arith, blank 96 t)) }
+pub add_series-requires : goal.add_series-requires
+add_series-requires c = record { formed = c.requires; room = (refl, λ t. omega (arith, blank 96 t)) }
 
 pub returns : goal.returns
 returns c = record {
-  value = λ t l. omega (arith, c.add-series.ensures.value t l, blank 96 t);
-  bound = λ t. omega (arith, c.add-series.ensures.bound t, blank 96 t);
+  value = λ t l. omega (arith, c.add_series.ensures.value t l, blank 96 t);
+  bound = λ t. omega (arith, c.add_series.ensures.bound t, blank 96 t);
 }

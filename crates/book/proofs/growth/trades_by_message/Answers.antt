@@ -17,8 +17,8 @@ loop-b-preserved-then-b-own c =
 pub loop-b-preserved : goal.loop-b-preserved
 loop-b-preserved c =
     let inv = c.loop-b.invariant in
-    let taken = c.add-series.ensures in
-    let given = c.add-series-in-loop-b.ensures in
+    let taken = c.add_series.ensures in
+    let given = c.add_series-in-loop-b.ensures in
     let own = c.args.own in
     let b = c.loop-b.b in
     let q = c.args.reader.now.quarters in
@@ -29,7 +29,7 @@ loop-b-preserved c =
       λ t. omega (arith, inv.2 t, taken.bound t),
       λ t. omega (arith, inv.3 t, given.bound t),
       λ t l.
-          net_more c.loop-b.taken c.loop-b.given c.add-series.new.sums c.add-series-in-loop-b.new.sums t (says (in_from b) t) (says (out_to b) t) _
+          net_more c.loop-b.taken c.loop-b.given c.add_series.new.sums c.add_series-in-loop-b.new.sums t (says (in_from b) t) (says (out_to b) t) _
           (omega (arith, taken.value t l, by_sender own q form (in_from b) t)) (omega (arith, given.value t l, by_sender own q form (out_to b) t)) (inv.4 t l)
           ∙ sym (stated_more (by_message own q form) t own b (search rules)),
     )

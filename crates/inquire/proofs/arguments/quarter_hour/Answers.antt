@@ -6,5 +6,5 @@ use Rattle.inquire.proofs.arguments.quarter_hour.Goals as goal
 pub returns-in-43 : goal.returns-in-43
 returns-in-43 c (numeral, _) =
     let digit = digit_at c.args.text.now 0 numeral.1 numeral.0 in
-    let same = ap (λ bs. get_or bs 0 0) c.as-bytes.ensures.value in
+    let same = ap (λ bs. get_or bs 0 0) c.as_bytes.ensures.value in
     omega arith

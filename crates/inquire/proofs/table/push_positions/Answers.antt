@@ -8,14 +8,14 @@ use Rattle.inquire.proofs.table.push_positions.Goals as goal
 pub loop-group-preserved : goal.loop-group-preserved
 loop-group-preserved c = (
   line_more (position_at (view_of c.args.session.now) c.args.quarter) _ _ _ _ c.loop-group.group _ (omega arith) (omega arith)
-      c.loop-group.invariant.0 c.in-ok-push.ensures.items (ap (λ r. position c.args.quarter c.loop-group.group r ∷ []) c.position_answer.ensures),
+      c.loop-group.invariant.0 c.in_ok-push.ensures.items (ap (λ r. position c.args.quarter c.loop-group.group r ∷ []) c.position-answer.ensures),
   omega arith,
 )
 
 pub returns : goal.returns
 returns c = no_more (position_at (view_of c.args.session.now) c.args.quarter) _ _ c.loop-group.group _ (omega arith) c.loop-group.invariant.0
 
-pub returns-in-ok-push : goal.returns-in-ok-push
-returns-in-ok-push c =
+pub returns-in_ok-push : goal.returns-in_ok-push
+returns-in_ok-push c =
     line_more (position_at (view_of c.args.session.now) c.args.quarter) _ _ _ _ c.loop-group.group _ (omega arith) (omega arith)
-    c.loop-group.invariant.0 c.in-ok-push.ensures.items (ap (λ r. position c.args.quarter c.loop-group.group r ∷ []) c.position_answer.ensures)
+    c.loop-group.invariant.0 c.in_ok-push.ensures.items (ap (λ r. position c.args.quarter c.loop-group.group r ∷ []) c.position-answer.ensures)

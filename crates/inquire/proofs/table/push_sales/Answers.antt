@@ -7,14 +7,14 @@ use Rattle.inquire.proofs.table.push_sales.Goals as goal
 pub loop-to-preserved : goal.loop-to-preserved
 loop-to-preserved c = (
   part_more (trade_at (view_of c.args.session.now) c.args.quarter c.args.from) _ _ _ c.loop-to.to _ (omega arith) (omega arith)
-      c.loop-to.invariant.0 c.in-ok-push-trade.ensures,
+      c.loop-to.invariant.0 c.in_ok-push_trade.ensures,
   omega arith,
 )
 
 pub returns : goal.returns
 returns c = no_more (trade_at (view_of c.args.session.now) c.args.quarter c.args.from) _ _ c.loop-to.to _ (omega arith) c.loop-to.invariant.0
 
-pub returns-in-ok-push-trade : goal.returns-in-ok-push-trade
-returns-in-ok-push-trade c =
+pub returns-in_ok-push_trade : goal.returns-in_ok-push_trade
+returns-in_ok-push_trade c =
     part_more (trade_at (view_of c.args.session.now) c.args.quarter c.args.from) _ _ _ c.loop-to.to _ (omega arith) (omega arith)
-    c.loop-to.invariant.0 c.in-ok-push-trade.ensures
+    c.loop-to.invariant.0 c.in_ok-push_trade.ensures

@@ -10,5 +10,5 @@ kept b es e = sym (ap (λ (x : Bool). cond x [] es) e)
 pub returns : goal.returns
 returns c =
     let line : Result ℕ Fault → List Entry = λ r. trade c.args.quarter c.args.from c.args.to r ∷ [] in
-    pushed _ _ _ _ c.in-ok-push.ensures.items
-    (ap line c.trade_answer.ensures ∙ kept (eqb c.args.to c.args.from) _ (ne_eqb c.args.to c.args.from c.if-to-from.false))
+    pushed _ _ _ _ c.in_ok-push.ensures.items
+    (ap line c.trade-answer.ensures ∙ kept (eqb c.args.to c.args.from) _ (ne_eqb c.args.to c.args.from c.if-to-from.false))

@@ -6,9 +6,9 @@ use Rattle.inquire.proofs.table.table.Goals as goal
 pub loop-quarter-preserved : goal.loop-quarter-preserved
 loop-quarter-preserved c =
     quarter_more (view_of c.args.session.now) c.args.quarters.now c.loop-quarter.quarter-index _ c.loop-quarter.invariant _ _ (omega arith)
-    c.in-ok-push-positions.ensures c.in-ok-push-trades.ensures
+    c.in_ok-push_positions.ensures c.in_ok-push_trades.ensures
 
 pub returns : goal.returns
 returns c =
     whole_table (view_of c.args.session.now) c.args.quarters.now c.loop-quarter.quarter-index _ c.loop-quarter.invariant _ _ (omega arith)
-    c.in-ok-push-standings.ensures c.in-ok-push-totals.ensures
+    c.in_ok-push_standings.ensures c.in_ok-push_totals.ensures

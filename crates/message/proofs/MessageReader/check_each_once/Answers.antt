@@ -6,10 +6,10 @@ use Rattle.message.proofs.MessageReader.check_each_once.Goals as goal
 pub loop-i-init : goal.loop-i-init
 loop-i-init c = each_none _
 
-pub returns-in-err-check-once : goal.returns-in-err-check-once
-returns-in-err-check-once c =
-    let p = err_from_is_err_and c.from-residual.result c.from-residual.ensures.1 in
-    rw (p.1, p.2) (each_exit _ _ c.loop-i.i _ (omega arith) c.loop-i.invariant c.in-err-check-once.ensures)
+pub returns-in_err-check_once : goal.returns-in_err-check_once
+returns-in_err-check_once c =
+    let p = err_from_is_err_and c.from_residual.result c.from_residual.ensures.1 in
+    rw (p.1, p.2) (each_exit _ _ c.loop-i.i _ (omega arith) c.loop-i.invariant c.in_err-check_once.ensures)
 
 pub loop-i-preserved : goal.loop-i-preserved
-loop-i-preserved c = each_more _ _ c.loop-i.invariant (sym c.in-ok-check-once.ensures)
+loop-i-preserved c = each_more _ _ c.loop-i.invariant (sym c.in_ok-check_once.ensures)

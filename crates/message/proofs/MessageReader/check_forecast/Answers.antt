@@ -2,13 +2,13 @@ use Rattle.std.proofs.Common.{sym, arith, rules}
 use Rattle.forms.proofs.Firsts.{each_none, each_more, each_exit}
 use Rattle.message.proofs.Passes.{forecast_metered, forecast_other}
 use Rattle.message.proofs.MessageReader.check_forecast.Goals as goal
-use Rattle.message.proofs.MessageReader.check_forecast.Goals.{then-metered-via-then-metered, then-metered-via-else-metered+then-not-is-forecast}
+use Rattle.message.proofs.MessageReader.check_forecast.Goals.{then-metered-via-then-metered, then-metered-via-else-metered+then-not-is_forecast}
 
 pub returns-then-metered : goal.returns-then-metered
 returns-then-metered c =
     elim c.then-metered.branch [
       | then-metered-via-then-metered w ↦ sym (forecast_metered c.args.self.now.quarters c.args.self.now.bytes.now c.args.i c.args.metered w.if-metered.true)
-      | then-metered-via-else-metered+then-not-is-forecast w ↦ sym (forecast_other c.args.self.now.quarters c.args.self.now.bytes.now c.args.i c.args.metered (search rules))
+      | then-metered-via-else-metered+then-not-is_forecast w ↦ sym (forecast_other c.args.self.now.quarters c.args.self.now.bytes.now c.args.i c.args.metered (search rules))
     ]
 
 pub loop-t-init : goal.loop-t-init

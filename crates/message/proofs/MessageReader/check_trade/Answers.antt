@@ -7,8 +7,8 @@ use Rattle.message.proofs.MessageReader.check_trade.Goals as goal
 pub returns-then-kind-ne-OUT : goal.returns-then-kind-ne-OUT
 returns-then-kind-ne-OUT c = sym (opposed_other c.args.self.now.quarters c.args.self.now.bytes.now c.args.i (search rules))
 
-pub returns-in-default : goal.returns-in-default
-returns-in-default c = sym (opposed_alone c.args.self.now.quarters c.args.self.now.bytes.now c.args.i (search rules))
+pub returns-in_default : goal.returns-in_default
+returns-in_default c = sym (opposed_alone c.args.self.now.quarters c.args.self.now.bytes.now c.args.i (search rules))
 
 pub loop-t-init : goal.loop-t-init
 loop-t-init c = each_none _

@@ -6,10 +6,10 @@ use Rattle.message.proofs.MessageReader.check_trades.Goals as goal
 pub loop-i-init : goal.loop-i-init
 loop-i-init c = each_none _
 
-pub returns-in-err-check-trade : goal.returns-in-err-check-trade
-returns-in-err-check-trade c =
-    let p = err_from_is_err_and c.from-residual.result c.from-residual.ensures.1 in
-    rw (p.1, p.2) (each_exit _ _ c.loop-i.i _ (omega arith) c.loop-i.invariant c.in-err-check-trade.ensures)
+pub returns-in_err-check_trade : goal.returns-in_err-check_trade
+returns-in_err-check_trade c =
+    let p = err_from_is_err_and c.from_residual.result c.from_residual.ensures.1 in
+    rw (p.1, p.2) (each_exit _ _ c.loop-i.i _ (omega arith) c.loop-i.invariant c.in_err-check_trade.ensures)
 
 pub loop-i-preserved : goal.loop-i-preserved
-loop-i-preserved c = each_more _ _ c.loop-i.invariant (sym c.in-ok-check-trade.ensures)
+loop-i-preserved c = each_more _ _ c.loop-i.invariant (sym c.in_ok-check_trade.ensures)

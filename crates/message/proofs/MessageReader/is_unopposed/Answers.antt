@@ -6,12 +6,12 @@ use Rattle.message.proofs.Passes.{ok_none, ok_more, opposed_ok}
 use Rattle.message.proofs.Spans.{value_of_bytes, length_values}
 use Rattle.message.proofs.MessageReader.is_unopposed.Goals as goal
 
-pub be32-at-requires : goal.be32-at-requires
-be32-at-requires c =
+pub be32_at-requires : goal.be32_at-requires
+be32_at-requires c =
     omega (arith, ap length c.values-out.ensures, length_values c.args.self.now.quarters c.args.self.now.bytes.now c.args.i c.requires.formed c.requires.there.0)
 
-pub be32-at-requires-in-loop-t : goal.be32-at-requires-in-loop-t
-be32-at-requires-in-loop-t c =
+pub be32_at-requires-in-loop-t : goal.be32_at-requires-in-loop-t
+be32_at-requires-in-loop-t c =
     omega (arith, ap length c.values-into.ensures, length_values c.args.self.now.quarters c.args.self.now.bytes.now c.args.opposite c.requires.formed c.requires.there.1)
 
 pub loop-t-init : goal.loop-t-init
@@ -22,8 +22,8 @@ loop-t-preserved c =
     let q = c.args.self.now.quarters in
     let form = c.args.self.now.bytes.now in
     let t = c.loop-t.t in
-    let out = c.be32-at.ensures ∙ ap (λ v. be32 v (4 * t)) c.values-out.ensures ∙ value_of_bytes q form c.args.i t c.loop-t-test.true in
-    let into = c.be32-at-in-loop-t.ensures ∙ ap (λ v. be32 v (4 * t)) c.values-into.ensures ∙ value_of_bytes q form c.args.opposite t c.loop-t-test.true in
+    let out = c.be32_at.ensures ∙ ap (λ v. be32 v (4 * t)) c.values-out.ensures ∙ value_of_bytes q form c.args.i t c.loop-t-test.true in
+    let into = c.be32_at-in-loop-t.ensures ∙ ap (λ v. be32 v (4 * t)) c.values-into.ensures ∙ value_of_bytes q form c.args.opposite t c.loop-t-test.true in
     ok_more _ t _ _ c.loop-t.invariant (opposed_ok q form c.args.i c.args.opposite t _ _ c.requires.out c.requires.into out into)
 
 pub returns : goal.returns

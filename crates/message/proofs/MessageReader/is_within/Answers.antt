@@ -6,8 +6,8 @@ use Rattle.message.proofs.Passes.{ok_none, ok_more, range_ok}
 use Rattle.message.proofs.Spans.{value_of_bytes, length_values}
 use Rattle.message.proofs.MessageReader.is_within.Goals as goal
 
-pub be32-at-requires : goal.be32-at-requires
-be32-at-requires c =
+pub be32_at-requires : goal.be32_at-requires
+be32_at-requires c =
     omega (arith, ap length c.values-values.ensures, length_values c.args.self.now.quarters c.args.self.now.bytes.now c.args.i c.requires.formed c.requires.there)
 
 pub loop-t-init : goal.loop-t-init
@@ -18,7 +18,7 @@ loop-t-preserved c =
     let q = c.args.self.now.quarters in
     let form = c.args.self.now.bytes.now in
     let t = c.loop-t.t in
-    let value = c.be32-at.ensures ∙ ap (λ v. be32 v (4 * t)) c.values-values.ensures ∙ value_of_bytes q form c.args.i t c.loop-t-test.true in
+    let value = c.be32_at.ensures ∙ ap (λ v. be32 v (4 * t)) c.values-values.ensures ∙ value_of_bytes q form c.args.i t c.loop-t-test.true in
     ok_more _ t _ _ c.loop-t.invariant (range_ok q form c.args.i t _ value)
 
 pub returns : goal.returns

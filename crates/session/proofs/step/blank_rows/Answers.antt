@@ -1,4 +1,4 @@
-use Rattle.std.proofs.Common.{◌≡◌, ℕ, zero, suc, ◌∷◌, map, replicate, refl, ap, ◌∙◌}
+use Rattle.std.proofs.Common.{◌≡◌, ℕ, zero, suc, false, List, ◌∷◌, map, replicate, pos, refl, ap, ◌∙◌}
 use Rattle.std.proofs.lemmas.Result.{IfOk-weaker}
 use Rattle.book.specs.declared.result_row.ResultRow.{ResultRow}
 use Rattle.book.specs.Rows.{row_of}
@@ -9,4 +9,4 @@ rows_alike zero x = refl
 rows_alike (suc n) x = ap (λ rs. row_of x ∷ rs) (rows_alike n x)
 
 pub returns : goal.returns
-returns c = IfOk-weaker c.vec.result _ _ (λ v h. ap (map row_of) (h (λ y e. e)) ∙ rows_alike c.args.groups _) c.vec.ensures.exact
+returns c = IfOk-weaker c.vec.result _ _ (λ v h. ap (map row_of) (h (λ y e. e)) ∙ rows_alike c.args.groups _) c.vec.ensures.items_if_clones_equal

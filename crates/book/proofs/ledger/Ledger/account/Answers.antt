@@ -1,11 +1,11 @@
-use Rattle.std.proofs.Common.{◌<◌, sym, arith, rules}
-use Rattle.opening.proofs.OpeningLaws.{count_in}
+use Rattle.std.proofs.Common.{◌<◌, ◌≤◌, length, sym, arith, rules}
+use Rattle.forms.proofs.OpeningLaws.{count_in}
 use Rattle.book.specs.Kept.{days_in, penalties_in, balance_in}
 use Rattle.book.proofs.Accounts.{account_at, bounded_at}
 use Rattle.book.proofs.ledger.Ledger.account.Goals as goal
 
-pub offset-bounds-self-a : goal.offset-bounds-self-a
-offset-bounds-self-a c = let l : c.args.a < 16 = omega (arith, count_in c.args.self.now.opening) in search rules
+pub offset_bounds-self-a : goal.offset_bounds-self-a
+offset_bounds-self-a c = let l : c.args.a < 16 = omega (arith, count_in c.args.self.now.opening) in search rules
 
 pub listed : goal.listed
 listed c = omega (arith, count_in c.args.self.now.opening)

@@ -10,13 +10,13 @@ use Rattle.book.specs.Messages.{beyond_now}
 use Rattle.book.specs.States.{State, state_of, figures}
 use Rattle.book.proofs.Counting.{count_none, count_yes, count_no, first_yes, first_no, or_told}
 use Rattle.book.proofs.ledger.Ledger.beyond.Goals as goal
-use Rattle.book.proofs.ledger.Ledger.beyond.Goals.{then-is-beyond, else-is-beyond}
+use Rattle.book.proofs.ledger.Ledger.beyond.Goals.{then-is_beyond, else-is_beyond}
 
-pub stated-trades-trades-requires : goal.stated-trades-trades-requires
-stated-trades-trades-requires c = record { sheet = c.on-day.ensures.whole; within = omega (arith, c.on-day.ensures.groups, c.requires.0) }
+pub stated_trades-trades-requires : goal.stated_trades-trades-requires
+stated_trades-trades-requires c = record { sheet = c.on-day.ensures.whole; within = omega (arith, c.on-day.ensures.groups, c.requires.0) }
 
-pub check-value-check-requires : goal.check-value-check-requires
-check-value-check-requires c = record {
+pub check_value-check-requires : goal.check_value-check-requires
+check_value-check-requires c = record {
   sheet = c.on-day.ensures.whole;
   within = (omega (arith, c.on-day.ensures.groups, c.requires.0), omega (arith, c.quarters.ensures.few, c.from-t-end.ensures, c.loop-t-test.true));
 }
@@ -36,23 +36,23 @@ loop-t-preserved c =
     let sent = c.on-day.ensures.sent in
     let words = c.on-day.ensures.words in
     let f = c.figures-figures.ensures in
-    let net = c.stated-trades-trades.ensures t (omega (arith, c.quarters.ensures.few, c.from-t-end.ensures, c.loop-t-test.true)) in
+    let net = c.stated_trades-trades.ensures t (omega (arith, c.quarters.ensures.few, c.from-t-end.ensures, c.loop-t-test.true)) in
     let check =
-    to_z-of_z w64 c.check-value-check.result (search rules) ∙ c.check-value-check.ensures.value
+    to_z-of_z w64 c.check_value-check.result (search rules) ∙ c.check_value-check.ensures.value
     ∙ (λ j. net j -ℤ pos (on_sheet c.on-day.result.groups c.on-day.result.sent.now c.on-day.result.words.now own cons t)) in
-    let known : c.is-beyond.result ≡ p t =
-    c.is-beyond.ensures
+    let known : c.is_beyond.result ≡ p t =
+    c.is_beyond.ensures
     ∙ (λ j. ltb 0 (excess (f j) s.phase (open_position (f j) (check j))))
     ∙ (λ j. ltb 0 (excess (figures s own) s.phase (open_position (figures s own) (stated_with (on_sheet (groups j) (sent j) (words j)) t own (groups j) -ℤ pos (on_sheet (groups j) (sent j) (words j) own cons t))))) in
-    elim c.if-is-beyond.branch [
-      | then-is-beyond w ↦
-          let yes : p t ≡ true = sym known ∙ w.if-is-beyond.true in (
+    elim c.if-is_beyond.branch [
+      | then-is_beyond w ↦
+          let yes : p t ≡ true = sym known ∙ w.if-is_beyond.true in (
             omega (arith, w.beyond-is),
             w.beyond-is ∙ ap (λ n. n + 1) c.loop-t.invariant.1 ∙ sym (count_yes p t yes),
             w.first-is ∙ w.or-first.ensures ∙ ap (λ o. option_or o (Some (t + 1))) c.loop-t.invariant.2 ∙ or_told (first_of p t) t ∙ sym (ap told (first_yes p t yes)),
           )
-      | else-is-beyond w ↦
-          let no_more : p t ≡ false = sym known ∙ w.if-is-beyond.false in (
+      | else-is_beyond w ↦
+          let no_more : p t ≡ false = sym known ∙ w.if-is_beyond.false in (
             omega (arith, w.beyond-is),
             w.beyond-is ∙ c.loop-t.invariant.1 ∙ sym (count_no p t no_more),
             w.first-is ∙ c.loop-t.invariant.2 ∙ sym (ap told (first_no p t no_more)),

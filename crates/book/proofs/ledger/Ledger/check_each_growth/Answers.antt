@@ -11,8 +11,8 @@ use Rattle.book.proofs.ledger.Ledger.check_each_growth.Goals as goal
 pub loop-t-init : goal.loop-t-init
 loop-t-init c = each_none _
 
-pub returns-then-farther-out : goal.returns-then-farther-out
-returns-then-farther-out c =
+pub returns-then-farther_out : goal.returns-then-farther_out
+returns-then-farther_out c =
     let s : State = state_of c.args.self.now in
     let sheet = c.args.sheet.now in
     let form = c.args.reader.now.bytes.now in
@@ -20,16 +20,16 @@ returns-then-farther-out c =
     let t = c.loop-t.t in
     let on = c.on-day.ensures in
     let within : t < words_per_slot = omega (arith, c.quarters-quarters.ensures.few, c.loop-t-test.true) in
-    let before = c.stated-trades-before.ensures t within in
+    let before = c.stated_trades-before.ensures t within in
     let last =
     last_known s sheet form own t _ _ _ _ on.groups on.sent on.words
-    (to_z-of_z w64 c.check-value-last.result (search rules) ∙ c.check-value-last.ensures.value ∙ ap (λ n. n -ℤ pos (on_sheet c.on-day.result.groups c.on-day.result.sent.now c.on-day.result.words.now own cons t)) before) in
+    (to_z-of_z w64 c.check_value-last.result (search rules) ∙ c.check_value-last.ensures.value ∙ ap (λ n. n -ℤ pos (on_sheet c.on-day.result.groups c.on-day.result.sent.now c.on-day.result.words.now own cons t)) before) in
     let next =
-    next_known s sheet form own t _ _ _ _ c.consumption-by-message-consumption.result _ c.requires.read.quarters c.groups.ensures.value
-    (c.trades-by-message-trades.ensures t c.loop-t-test.true) (c.consumption-by-message-consumption.ensures.value t c.loop-t-test.true)
-    (to_z-of_z w64 c.check-less-next.result (search rules) ∙ c.check-less-next.ensures.value) in
-    let grows = grows_known s sheet form own t _ _ _ _ c.farther-out.ensures c.figures-figures.ensures next last in
-    let yes = sym grows ∙ c.if-farther-out.true in
+    next_known s sheet form own t _ _ _ _ c.consumption_by_message-consumption.result _ c.requires.read.quarters c.groups.ensures.value
+    (c.trades_by_message-trades.ensures t c.loop-t-test.true) (c.consumption_by_message-consumption.ensures.value t c.loop-t-test.true)
+    (to_z-of_z w64 c.check_less-next.result (search rules) ∙ c.check_less-next.ensures.value) in
+    let grows = grows_known s sheet form own t _ _ _ _ c.farther_out.ensures c.figures-figures.ensures next last in
+    let yes = sym grows ∙ c.if-farther_out.true in
     each_exit _ _ t _ (omega (arith, c.quarters-quarters.ensures.value)) c.loop-t.invariant (search rules)
 
 pub loop-t-preserved : goal.loop-t-preserved
@@ -41,16 +41,16 @@ loop-t-preserved c =
     let t = c.loop-t.t in
     let on = c.on-day.ensures in
     let within : t < words_per_slot = omega (arith, c.quarters-quarters.ensures.few, c.loop-t-test.true) in
-    let before = c.stated-trades-before.ensures t within in
+    let before = c.stated_trades-before.ensures t within in
     let last =
     last_known s sheet form own t _ _ _ _ on.groups on.sent on.words
-    (to_z-of_z w64 c.check-value-last.result (search rules) ∙ c.check-value-last.ensures.value ∙ ap (λ n. n -ℤ pos (on_sheet c.on-day.result.groups c.on-day.result.sent.now c.on-day.result.words.now own cons t)) before) in
+    (to_z-of_z w64 c.check_value-last.result (search rules) ∙ c.check_value-last.ensures.value ∙ ap (λ n. n -ℤ pos (on_sheet c.on-day.result.groups c.on-day.result.sent.now c.on-day.result.words.now own cons t)) before) in
     let next =
-    next_known s sheet form own t _ _ _ _ c.consumption-by-message-consumption.result _ c.requires.read.quarters c.groups.ensures.value
-    (c.trades-by-message-trades.ensures t c.loop-t-test.true) (c.consumption-by-message-consumption.ensures.value t c.loop-t-test.true)
-    (to_z-of_z w64 c.check-less-next.result (search rules) ∙ c.check-less-next.ensures.value) in
-    let grows = grows_known s sheet form own t _ _ _ _ c.farther-out.ensures c.figures-figures.ensures next last in
-    let no-growth = sym grows ∙ c.if-farther-out.false in
+    next_known s sheet form own t _ _ _ _ c.consumption_by_message-consumption.result _ c.requires.read.quarters c.groups.ensures.value
+    (c.trades_by_message-trades.ensures t c.loop-t-test.true) (c.consumption_by_message-consumption.ensures.value t c.loop-t-test.true)
+    (to_z-of_z w64 c.check_less-next.result (search rules) ∙ c.check_less-next.ensures.value) in
+    let grows = grows_known s sheet form own t _ _ _ _ c.farther_out.ensures c.figures-figures.ensures next last in
+    let no-growth = sym grows ∙ c.if-farther_out.false in
     each_more _ _ c.loop-t.invariant (rw no-growth)
 
 pub returns : goal.returns

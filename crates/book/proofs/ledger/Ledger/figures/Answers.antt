@@ -1,5 +1,5 @@
 use Rattle.std.proofs.Common.{arith}
-use Rattle.opening.proofs.OpeningLaws.{count_in}
+use Rattle.forms.proofs.OpeningLaws.{count_in}
 use Rattle.book.proofs.ledger.Ledger.figures.Goals as goal
 
 pub group-requires : goal.group-requires

@@ -1,17 +1,17 @@
-use Rattle.std.proofs.Common.{◌≡◌, ℕ, ◌+◌, ◌*◌, ◌<◌, get_or, Some, None, sym, ap, ◌∙◌, arith}
+use Rattle.std.proofs.Common.{◌≡◌, ℕ, ◌+◌, ◌*◌, ◌<◌, ◌≤◌, length, get_or, Some, None, sym, ap, ◌∙◌, arith, rules}
 use Rattle.message.specs.Places.{place_of}
 use Rattle.settlement.specs.Sheets.{slots, slot_at}
 use Rattle.book.specs.Messages.{series_laid}
 use Rattle.book.specs.States.{State, state_of, size, day_quarters}
 use Rattle.book.proofs.Laying.{slots_laid, slots_none, slots_skip, slots_write, slots_all}
 use Rattle.book.proofs.ledger.Ledger.lay.Goals as goal
-use Rattle.book.proofs.ledger.Ledger.lay.Goals.{in-Some, in-default}
+use Rattle.book.proofs.ledger.Ledger.lay.Goals.{in-Some, in_default}
 
 pub loop-number-init : goal.loop-number-init
 loop-number-init c = slots_none _ _ _ _ _
 
-pub lay-series-requires : goal.lay-series-requires
-lay-series-requires c = record {
+pub lay_series-requires : goal.lay_series-requires
+lay_series-requires c = record {
   formed = (c.requires.read.formed, c.in-Some.ensures.first.0);
   room = (
     c.quarters-quarters.ensures.value ∙ sym c.requires.read.quarters,
@@ -29,22 +29,22 @@ loop-number-preserved c =
     let sheet = c.args.sheet.now in
     let n = c.loop-number.number in
     let xs = c.loop-number.sheet in
-    let below : n < slots g = omega (arith, c.loop-number-test.true, c.slots-per-group-number-end.ensures, c.groups.ensures.value) in
-    let slot = c.slot-at.ensures ∙ ap (λ m. slot_at m n) c.groups-in-loop-number.ensures.value in
+    let below : n < slots g = omega (arith, c.loop-number-test.true, c.slots_per_group-number-end.ensures, c.groups.ensures.value) in
+    let slot = c.slot_at.ensures ∙ ap (λ m. slot_at m n) c.groups-in-loop-number.ensures.value in
     elim c.match-find.branch [
       | in-Some w ↦
           let i = w.in-Some.i in
           let found : place_of form (slot_at g n) ≡ Some i = ap (place_of form) (sym slot) ∙ sym w.in-Some.ensures.value in
-          let ys = w.lay-series.new.sheet in
+          let ys = w.lay_series.new.sheet in
           let of-day = c.requires.read.quarters in
           let all = c.quarters-quarters.ensures.value in
           let at : w.place-at.result * 96 ≡ (own * slots g + n) * 96 = ap (λ p. p * 96) w.place-at.ensures.value in
           let written : (k : ℕ) → get_or ys k 0 ≡ series_laid q form i ((own * slots g + n) * 96) q xs k =
-          λ k. w.lay-series.ensures k ∙ (λ j. series_laid (of-day j) form i (at j) (all j) xs k) in
+          λ k. w.lay_series.ensures k ∙ (λ j. series_laid (of-day j) form i (at j) (all j) xs k) in
           λ k. ap (λ zs. get_or zs k 0) w.sheet-is
           ∙ slots_write g q own form sheet n below i xs ys (omega (arith, all, c.quarters-quarters.ensures.few)) found c.loop-number.invariant written k
-      | in-default w ↦
-          let missing : place_of form (slot_at g n) ≡ None = ap (place_of form) (sym slot) ∙ sym w.in-default.ensures.value in
+      | in_default w ↦
+          let missing : place_of form (slot_at g n) ≡ None = ap (place_of form) (sym slot) ∙ sym w.in_default.ensures.value in
           λ k. ap (λ zs. get_or zs k 0) w.sheet-is ∙ c.loop-number.invariant k ∙ slots_skip g q own form sheet n below missing k
     ]
 
@@ -57,6 +57,6 @@ returns c =
     let form = c.args.reader.now.bytes.now in
     let sheet = c.args.sheet.now in
     let all : c.loop-number.number ≡ slots g =
-    omega (arith, c.slots-per-group-number-end.ensures, c.groups.ensures.value, c.loop-number-test.false, c.loop-number.auto.number-end) in
+    omega (arith, c.slots_per_group-number-end.ensures, c.groups.ensures.value, c.loop-number-test.false, c.loop-number.auto.number-end) in
     slots_all g q own form sheet c.loop-number.sheet c.loop-number.auto.sheet
     (λ k. c.loop-number.invariant k ∙ ap (λ n. slots_laid g q own form n sheet k) all)

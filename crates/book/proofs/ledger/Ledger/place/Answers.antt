@@ -1,4 +1,4 @@
-use Rattle.std.proofs.Common.{◌*◌, ap, ◌∙◌, arith}
+use Rattle.std.proofs.Common.{◌≡◌, ℕ, ◌+◌, ◌*◌, ◌<◌, ◌≤◌, ap, ◌∙◌, arith}
 use Rattle.std.proofs.lemmas.Nat.{mul-add-lt}
 use Rattle.settlement.specs.Sheets.{slots}
 use Rattle.book.specs.States.{State, state_of, size}
@@ -9,7 +9,7 @@ pub returns : goal.returns
 returns c =
     let s : State = state_of c.args.self.now in
     let own = c.args.own in
-    let e = ap (λ n. own * n) (c.slots-per-group.ensures ∙ ap slots c.groups.ensures.value) in
+    let e = ap (λ n. own * n) (c.slots_per_group.ensures ∙ ap slots c.groups.ensures.value) in
     let below = mul-add-lt own (slots (size s)) c.args.number (size s) c.requires.0 c.requires.1 in
     record {
       value = omega (arith, e);

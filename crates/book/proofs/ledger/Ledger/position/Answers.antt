@@ -1,12 +1,12 @@
-use Rattle.std.proofs.Common.{arith}
+use Rattle.std.proofs.Common.{arith, rules}
 use Rattle.book.specs.States.{state_of, today}
 use Rattle.book.proofs.Days.{quarters_fit}
 use Rattle.book.proofs.ledger.Ledger.position.Goals as goal
 
 pub position-requires : goal.position-requires
 position-requires c =
-    let a = c.in-ok-a.ensures in
-    let t = c.in-ok-t.ensures in
+    let a = c.in_ok-a.ensures in
+    let t = c.in_ok-t.ensures in
     record {
       sheet = c.on.ensures.whole;
       within = (omega (arith, a.3, c.on.ensures.groups), omega (arith, t.3, quarters_fit (today (state_of c.args.self.now))));

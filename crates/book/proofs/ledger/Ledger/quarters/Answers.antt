@@ -6,5 +6,5 @@ use Rattle.book.proofs.ledger.Ledger.quarters.Goals as goal
 
 pub returns : goal.returns
 returns c =
-    let e = c.quarters-of.ensures ∙ ap quarters c.day.ensures in
+    let e = c.quarters_of.ensures ∙ ap quarters c.day.ensures in
     record { value = e; few = omega (arith, e, quarters_fit (today (state_of c.args.self.now))) }

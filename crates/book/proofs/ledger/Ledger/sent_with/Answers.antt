@@ -1,4 +1,4 @@
-use Rattle.std.proofs.Common.{◌≡◌, ◌<◌, is_some, sym, ap, ◌∙◌, arith}
+use Rattle.std.proofs.Common.{◌≡◌, ◌<◌, length, is_some, sym, ap, ◌∙◌, arith}
 use Rattle.std.proofs.lemmas.List.{length-set}
 use Rattle.message.specs.Places.{place_of, sent_in}
 use Rattle.settlement.specs.Sheets.{slots, slot_at}
@@ -16,11 +16,11 @@ loop-number-preserved c =
     let form = c.args.reader.now.bytes.now in
     let n = c.loop-number.number in
     let xs = c.loop-number.sent in
-    let below : n < slots g = omega (arith, c.loop-number-test.true, c.slots-per-group-number-end.ensures, c.groups.ensures.value) in
-    let slot = c.slot-at.ensures ∙ ap (λ m. slot_at m n) c.groups-in-loop-number.ensures.value in
-    let is : c.is-some.result ≡ sent_in form (slot_at g n) = c.is-some.ensures ∙ ap is_some (c.find.ensures.value ∙ ap (place_of form) slot) in (
-      length-set xs c.place.result c.is-some.result ∙ c.loop-number.invariant.0,
-      flags_more g c.args.own form c.args.self.now.sent n c.place.result xs c.is-some.result below c.place.ensures.value
+    let below : n < slots g = omega (arith, c.loop-number-test.true, c.slots_per_group-number-end.ensures, c.groups.ensures.value) in
+    let slot = c.slot_at.ensures ∙ ap (λ m. slot_at m n) c.groups-in-loop-number.ensures.value in
+    let is : c.is_some.result ≡ sent_in form (slot_at g n) = c.is_some.ensures ∙ ap is_some (c.find.ensures.value ∙ ap (place_of form) slot) in (
+      length-set xs c.place.result c.is_some.result ∙ c.loop-number.invariant.0,
+      flags_more g c.args.own form c.args.self.now.sent n c.place.result xs c.is_some.result below c.place.ensures.value
           (omega (arith, c.place.ensures.flag, c.loop-number.invariant.0)) is c.loop-number.invariant.1,
     )
 
@@ -32,6 +32,6 @@ returns c =
     let form = c.args.reader.now.bytes.now in
     let sent = c.args.self.now.sent in
     let all : c.loop-number.number ≡ slots g =
-    omega (arith, c.slots-per-group-number-end.ensures, c.groups.ensures.value, c.loop-number-test.false, c.loop-number.auto.number-end) in
+    omega (arith, c.slots_per_group-number-end.ensures, c.groups.ensures.value, c.loop-number-test.false, c.loop-number.auto.number-end) in
     flags_all g own form sent c.loop-number.sent (c.loop-number.invariant.0 ∙ sym c.args.self.now.flags)
     (λ k. c.loop-number.invariant.1 k ∙ ap (λ n. flags_laid g own form n sent k) all)

@@ -1,10 +1,10 @@
-use Rattle.std.proofs.Common.{◌≡◌, ℕ, ◌+◌, ◌-◌, ◌<◌, Err, sym, ap, ◌∙◌, arith}
+use Rattle.std.proofs.Common.{◌≡◌, ℕ, ◌+◌, ◌-◌, ◌<◌, List, length, Err, Option, sym, refl, ap, ◌∙◌, arith, rules}
 use Rattle.std.proofs.lemmas.Result.{err_from_is_err_and}
 use Rattle.std.specs.Option.{option_map}
 use Rattle.settlement.specs.Sheets.{sheet_size}
 use Rattle.message.specs.Form.{said}
 use Rattle.message.specs.Places.{first_of}
-use Rattle.opening.proofs.OpeningLaws.{count_in}
+use Rattle.forms.proofs.OpeningLaws.{count_in}
 use Rattle.book.specs.Messages.{submit_check, beyond_now, beyond_at, beyond_count, count_where, state_with, sheet_after}
 use Rattle.book.specs.States.{State, state_of, size, day_quarters}
 use Rattle.book.proofs.Accepted.{beyond_same, count_same, first_same}
@@ -12,18 +12,18 @@ use Rattle.book.proofs.Days.{flags_enough}
 use Rattle.book.proofs.Submitting.{submit_refused, submit_accepted}
 use Rattle.book.proofs.ledger.Ledger.submit.Goals as goal
 
-pub returns-in-err-own : goal.returns-in-err-own
-returns-in-err-own c =
+pub returns-in_err-own : goal.returns-in_err-own
+returns-in_err-own c =
     let s : State = state_of c.args.self.now in
     let sheet = c.args.sheet.now in
-    let p = err_from_is_err_and c.from-residual.result c.from-residual.ensures.1 in
-    submit_refused s sheet c.args.form.now c.from-residual.result _ (p.1 ∙ ap Err p.2)
-    (ap (submit_check s sheet) (sym c.new-reader.ensures.bytes) ∙ c.in-err-own.ensures)
+    let p = err_from_is_err_and c.from_residual.result c.from_residual.ensures.1 in
+    submit_refused s sheet c.args.form.now c.from_residual.result _ (p.1 ∙ ap Err p.2)
+    (ap (submit_check s sheet) (sym c.new-reader.ensures.bytes) ∙ c.in_err-own.ensures)
 
 pub beyond-requires : goal.beyond-requires
 beyond-requires c =
-    let passed = c.in-ok-own.ensures in
-    let many : size (state_of c.with-message-after.result) ≡ size (state_of c.args.self.now) = ap size c.with-message-after.ensures in
+    let passed = c.in_ok-own.ensures in
+    let many : size (state_of c.with_message-after.result) ≡ size (state_of c.args.self.now) = ap size c.with_message-after.ensures in
     (omega (arith, passed.read.sender, many), c.lay.auto.sheet ∙ passed.room ∙ ap sheet_size (sym many))
 
 pub returns : goal.returns
@@ -34,12 +34,12 @@ returns c =
     let q = day_quarters s in
     let sheet = c.args.sheet.now in
     let form = c.args.form.now in
-    let passed = c.in-ok-own.ensures in
-    let x = c.in-ok-own.field-0 in
+    let passed = c.in_ok-own.ensures in
+    let x = c.in_ok-own.field-0 in
     let read = c.new-reader.ensures.bytes in
     let own : x.own ≡ (said form).group - 1 = passed.sender ∙ ap (λ f. (said f).group - 1) read in
     let version : x.version ≡ (said form).version = passed.version ∙ ap (λ f. (said f).version) read in
-    let after = c.with-message-after.ensures ∙ (λ j. state_with s x.own x.version (read j)) in
+    let after = c.with_message-after.ensures ∙ (λ j. state_with s x.own x.version (read j)) in
     let laid = c.lay.ensures ∙ (λ j. sheet_after g q x.own (read j) sheet) in
     let enough = flags_enough g (omega (arith, count_in l.opening)) in
     let same : (t : ℕ) → t < q → beyond_now (state_with s x.own x.version form) (sheet_after g q x.own form sheet) x.own t ≡ beyond_at s x.own form t =

@@ -1,4 +1,4 @@
-use Rattle.std.proofs.Common.{◌≡◌, ◌-◌, ◌≤◌, take, ap, ◌∙◌, le_refl, arith}
+use Rattle.std.proofs.Common.{◌≡◌, ℕ, ◌-◌, ◌≤◌, Bool, List, take, sym, refl, ap, ◌∙◌, le_refl, arith}
 use Rattle.stage.specs.Marked.{marks_of, on_day}
 use Rattle.stage.specs.MarkLists.{on_day_take}
 use Rattle.book.specs.Kept.{cut_offs}
@@ -11,14 +11,14 @@ returns g c =
     let s : State = state_of c.args.self.now.ledger in
     let day = c.args.day in
     let xs = (kept s (c.args.group - 1)).marks in
-    let found = c.in-ok-a.ensures in
+    let found = c.in_ok-a.ensures in
     let asked : marks_of c.account.result.marks ≡ xs =
     ap (λ (k : GroupState). k.marks) c.account.ensures.value ∙ ap (λ a. (kept s a).marks) found.1 in
     let cut : marks_of c.first-marks.result ≡ take day xs = c.first-marks.ensures ∙ ap (take day) asked in
     let mark-is : c.marked.result ≡ on_day xs day = c.marked.ensures ∙ ap (λ v. on_day v day) cut ∙ on_day_take day xs day (le_refl day) in
     let stage_is : c.stage.result ≡ g.R.StageRule.meaning c.args.self.now.rule (take day xs) =
     c.stage.ensures ∙ ap (g.R.StageRule.meaning c.args.self.now.rule) cut in
-    let past : day ≤ cut_offs s.closed s.phase = omega (arith, c.cut_offs.ensures, c.if-day-cut-offs.false) in
+    let past : day ≤ cut_offs s.closed s.phase = omega (arith, c.cut_offs.ensures, c.if-day-cut_offs.false) in
     answered _ _ _
     (both_passed _ _ found.0 (not_refused _ _ (one_of_true (cut_offs s.closed s.phase) day (omega (arith, c.if-day-lt1.false)) past)))
     (λ j. (mark-is j, stage_is j))

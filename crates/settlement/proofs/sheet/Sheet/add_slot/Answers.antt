@@ -8,8 +8,8 @@ use Rattle.settlement.proofs.sheet.Sheet.add_slot.Goals as goal
 pub loop-t-init : goal.loop-t-init
 loop-t-init c = (added_none _ _, λ k. omega arith)
 
-pub overflow-add-sums : goal.overflow-add-sums
-overflow-add-sums c =
+pub overflow_add-sums : goal.overflow_add-sums
+overflow_add-sums c =
     let before = c.loop-t.invariant.0 c.loop-t.t ∙ added_no _ _ _ _ (omega arith) in
     omega (arith, before, c.requires.room.1 c.loop-t.t)
 
@@ -24,14 +24,14 @@ pub returns-then-not-self-place : goal.returns-then-not-self-place
 returns-then-not-self-place c =
     let sheet = c.args.self.now in
     let unsent : get_or sheet.sent.now (slot_place sheet.groups c.args.group (slot_of c.args.slot)) false ≡ false =
-    ap (λ p. get_or sheet.sent.now p false) (sym c.slot-place-place.ensures.value) ∙ c.if-not-self-place.true in record {
+    ap (λ p. get_or sheet.sent.now p false) (sym c.slot_place-place.ensures.value) ∙ c.if-not-self-place.true in record {
       value = λ t l. omega (arith, on_sheet_unsent sheet.groups sheet.sent.now sheet.words.now c.args.group (slot_of c.args.slot) t unsent);
       bound = λ t. omega arith;
     }
 
 pub returns : goal.returns
 returns c =
-    let place = c.slot-place-place.ensures.value in
+    let place = c.slot_place-place.ensures.value in
     let sent = ap (λ p. get_or c.args.self.now.sent.now p _) (sym place) ∙ c.if-not-self-place.false in record {
       value = λ t l.
           c.loop-t.invariant.0 t ∙ added_yes _ _ _ t (omega arith)

@@ -9,8 +9,8 @@ use Rattle.settlement.proofs.sheet.Sheet.add_trade.Goals.{then-not-self-out-via-
 pub loop-t-init : goal.loop-t-init
 loop-t-init c = (added_none _ _, λ k. omega arith)
 
-pub overflow-add-sums : goal.overflow-add-sums
-overflow-add-sums c =
+pub overflow_add-sums : goal.overflow_add-sums
+overflow_add-sums c =
     let before = c.loop-t.invariant.0 c.loop-t.t ∙ added_no _ _ _ _ (omega arith) in
     omega (arith, before, c.requires.room.1 c.loop-t.t)
 
@@ -24,8 +24,8 @@ loop-t-preserved c = (
 pub returns-then-not-self-out : goal.returns-then-not-self-out
 returns-then-not-self-out c =
     let sheet = c.args.self.now in
-    let out = c.slot-place-out.ensures.value in
-    let into = c.slot-place-into.ensures.value in
+    let out = c.slot_place-out.ensures.value in
+    let into = c.slot_place-into.ensures.value in
     let none : (t : ℕ) → confirmed (on_sheet sheet.groups sheet.sent.now sheet.words.now) t c.args.a c.args.b ≡ 0 =
     λ t. elim c.then-not-self-out.branch [
       | then-not-self-out-via-then-not-self-out w ↦ confirmed_no_out _ _ _ t _ _ (ap (λ p. get_or sheet.sent.now p false) (sym out) ∙ w.if-not-self-out.true)
@@ -35,8 +35,8 @@ returns-then-not-self-out c =
 pub returns : goal.returns
 returns c =
     let sheet = c.args.self.now in
-    let out = c.slot-place-out.ensures.value in
-    let into = c.slot-place-into.ensures.value in
+    let out = c.slot_place-out.ensures.value in
+    let into = c.slot_place-into.ensures.value in
     let out-sent = ap (λ p. get_or sheet.sent.now p false) (sym out) ∙ c.if-not-self-out.false in
     let in-sent = ap (λ p. get_or sheet.sent.now p false) (sym into) ∙ c.if-not-self-into.false in record {
       value = λ t l.

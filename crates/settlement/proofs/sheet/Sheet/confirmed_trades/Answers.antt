@@ -14,8 +14,8 @@ loop-b-preserved-then-b-a c =
 pub loop-b-preserved : goal.loop-b-preserved
 loop-b-preserved c =
     let inv = c.loop-b.invariant in
-    let taken = c.add-trade.ensures in
-    let given = c.add-trade-in-loop-b.ensures in (
+    let taken = c.add_trade.ensures in
+    let given = c.add_trade-in-loop-b.ensures in (
       search rules,
       search rules,
       λ t. omega (arith, inv.2 t, taken.bound t),

@@ -18,9 +18,9 @@ loop-t-preserved c =
     let t = c.loop-t.t in
     let f = figures_of c.args.figures.now in
     let S = on_sheet sheet.groups sheet.sent.now sheet.words.now in
-    let net = c.confirmed-trades-trades.ensures t (omega (arith, c.requires.within.1)) in
-    let check = to_z-of_z w64 c.check-value.result (search rules) ∙ c.check-value.ensures.value ∙ ap (λ n. n -ℤ pos (S c.args.a cons t)) net in
-    let open-now = to_z-of_z w64 c.open-position-confirmed.result (search rules) ∙ c.open-position-confirmed.ensures.value ∙ ap (open_position f) check in (
+    let net = c.confirmed_trades-trades.ensures t (omega (arith, c.requires.within.1)) in
+    let check = to_z-of_z w64 c.check_value.result (search rules) ∙ c.check_value.ensures.value ∙ ap (λ n. n -ℤ pos (S c.args.a cons t)) net in
+    let open-now = to_z-of_z w64 c.open_position-confirmed.result (search rules) ∙ c.open_position-confirmed.ensures.value ∙ ap (open_position f) check in (
       (λ j. c.loop-t.invariant.0 j + (c.excess-sum.ensures.value ∙ ap (excess f After) open-now) j) ∙ sym (day_excess_more S f sheet.groups c.args.a t),
       search rules,
     )

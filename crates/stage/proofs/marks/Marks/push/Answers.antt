@@ -7,10 +7,10 @@ use Rattle.stage.specs.MarkLists.{length_marks}
 use Rattle.stage.proofs.marks.Marks.push.Goals as goal
 use Rattle.stage.proofs.marks.Marks.push.Goals.{then-mark, else-mark}
 
-pub invariant-of-self : goal.invariant-of-self
-invariant-of-self c =
+pub invariant_of-self : goal.invariant_of-self
+invariant_of-self c =
     let m = c.args.self.now in
-    (omega (arith, length_marks m), (length-set m.words (m.days / 64) c.if-mark.words ∙ m.size, tt))
+    record { year = omega (arith, length_marks m); size = length-set m.words (m.days / 64) c.if-mark.words ∙ m.size }
 
 pub returns : goal.returns
 unfolding marks_of

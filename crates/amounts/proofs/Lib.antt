@@ -1,4 +1,0 @@
-pub mod DayCosts
-pub mod Laws
-pub mod Signs
-pub mod WorkedAmounts

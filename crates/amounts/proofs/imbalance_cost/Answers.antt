@@ -1,6 +1,0 @@
-use Rattle.std.proofs.Common.{arith, rules}
-use Rattle.std.proofs.lemmas.Int.{ints}
-use Rattle.amounts.proofs.imbalance_cost.Goals as goal
-
-pub returns : goal.returns
-returns c = record { value = grind (arith, ints); bound = search rules }

@@ -1,0 +1,30 @@
+-- What is known of a closing form whose checks have passed, and which place a refusal names.
+use Rattle.std.proofs.Common.{◌≡◌, ℕ, ◌+◌, ◌<◌, ◌≤◌, List, nat_abs, Ok, arith}
+use Rattle.std.proofs.lemmas.Bool.{ltb-false}
+use Rattle.std.proofs.lemmas.Bool.Decides.{nat_tests}
+use Rattle.forms.specs.Bounds.{power_bound, price_bound}
+use Rattle.forms.specs.Checks.{Earliest}
+use Rattle.forms.specs.Closings.{ClosingFormed, series_count, closing_sizes, closing_value, feed_in, long_price, short_price, value_bound, value_check, series_check, closing_check}
+use Rattle.forms.proofs.Firsts.{each_passed, unrefused, earliest_answers}
+
+pub closing_formed : (g q : ℕ) (s : List ℕ) → closing_sizes g q s ≡ Ok tt → ClosingFormed g q s
+closing_formed g q s e = record { long = grind (arith, nat_tests) }
+
+-- a refusal names the earliest series, and in it the earliest quarter hour
+pub closing_earliest : (g q : ℕ) (s : List ℕ) → Earliest (value_check g q s) (series_count g) q (closing_check g q s)
+closing_earliest g q s = earliest_answers (value_check g q s) (series_count g) q
+
+module _ (g q : ℕ) (s : List ℕ) (passed : closing_check g q s ≡ Ok tt) where
+  pub value_within : (i t : ℕ) → i < series_count g → t < q → nat_abs (closing_value q s i t) ≤ value_bound g i
+  value_within i t h l =
+      let series = each_passed (series_check g q s) (series_count g) i passed h in
+      ltb-false _ _ (unrefused _ _ (each_passed (value_check g q s i) q t series l))
+
+  pub feed_in_within : (a t : ℕ) → a < g → t < q → nat_abs (feed_in q s a t) ≤ power_bound
+  feed_in_within a t h l = let w = value_within a t (omega arith) l in grind (arith, nat_tests)
+
+  pub long_price_within : (t : ℕ) → t < q → nat_abs (long_price g q s t) ≤ price_bound
+  long_price_within t l = let w = value_within g t (omega arith) l in grind (arith, nat_tests)
+
+  pub short_price_within : (t : ℕ) → t < q → nat_abs (short_price g q s t) ≤ price_bound
+  short_price_within t l = let w = value_within (g + 1) t (omega arith) l in grind (arith, nat_tests)

@@ -1,0 +1,121 @@
+-- What is known of a form whose checks have passed, and of its terms.
+use Rattle.std.proofs.Common.{◌≡◌, ℕ, zero, suc, ◌+◌, ◌-◌, ◌<◌, ◌≤◌, Bool, true, false, ◌⊎◌, List, map, length, get_or, Ok, Err, sym, refl, ap, ◌∙◌, inl, inr, add-one, arith}
+use Rattle.std.proofs.lemmas.List.FromFn.{length-map-range_with_len, get_or-map-range_with_len}
+use Rattle.std.proofs.lemmas.Bool.{cases_eq}
+use Rattle.std.proofs.lemmas.Bool.Decides.{nat_tests}
+use Rattle.forms.specs.declared.group.TariffRow.{TariffRow}
+use Rattle.forms.specs.Bounds.{fee_bound, rate_bound}
+use Rattle.forms.specs.Bytes.{byte}
+use Rattle.forms.specs.Checks.{each_of}
+use Rattle.forms.specs.Figures.{GroupFigures, RateFigures, rates_of}
+use Rattle.forms.specs.Openings.{OpeningFormed, sizes_check, rows_check, groups_told, rows_told, group_place, group_at, row_at, lawful_group, lawful_row, no_fall, group_check, row_check, PowersWithin, PlantsMetered, LawfulTerms, terms_of}
+use Rattle.forms.proofs.Firsts.{each_passed, and_then_left, and_then_right, allowed}
+
+pub opening_formed : (s : List ℕ) → sizes_check s ≡ Ok tt → OpeningFormed s
+opening_formed s e = record {
+  groups_least = grind (arith, nat_tests);
+  groups_most = grind (arith, nat_tests);
+  rows_least = grind (arith, nat_tests);
+  rows_most = grind (arith, nat_tests);
+  long = grind (arith, nat_tests);
+}
+
+-- a figure that falls nowhere from one row to the next falls nowhere
+rises : (f : ℕ → ℕ) (n : ℕ) → ((j : ℕ) → suc j < n → f j ≤ f (suc j)) → (i j : ℕ) → i ≤ j → j < n → f i ≤ f j
+rises f n step i zero h l = let e : i ≡ zero = omega arith in omega (arith, ap f e)
+rises f n step i (suc j) h l =
+    elim (cases_eq i (suc j)) [
+      | inl e ↦ omega (arith, ap f e)
+      | inr ne ↦ omega (arith, rises f n step i j (omega arith) (omega arith), step j l)
+    ]
+
+module _ (s : List ℕ) where
+  pub length_groups : length (terms_of s).groups ≡ groups_told s
+  unfolding terms_of
+  length_groups = length-map-range_with_len (group_at s) 0 (groups_told s)
+
+  pub length_tariff : length (terms_of s).tariff ≡ rows_told s
+  unfolding terms_of
+  length_tariff = length-map-range_with_len (row_at s (groups_told s)) 0 (rows_told s)
+
+  pub get_d_groups : (a : ℕ) (d : GroupFigures) → a < groups_told s → get_or (terms_of s).groups a d ≡ group_at s a
+  unfolding terms_of
+  get_d_groups a d h = get_or-map-range_with_len (group_at s) 0 (groups_told s) a a d h (omega arith)
+
+  pub get_d_tariff : (r : ℕ) (d : RateFigures) → r < rows_told s → get_or (terms_of s).tariff r d ≡ row_at s (groups_told s) r
+  unfolding terms_of
+  get_d_tariff r d h = get_or-map-range_with_len (row_at s (groups_told s)) 0 (rows_told s) r r d h (omega arith)
+
+module _ (s : List ℕ) (passed : rows_check s ≡ Ok tt) where
+  group_lawful : (a : ℕ) → a < groups_told s → lawful_group (byte s (group_place a)) (group_at s a) ≡ true
+  group_lawful a h =
+      allowed (lawful_group (byte s (group_place a)) (group_at s a)) _
+      (each_passed (group_check s) (groups_told s) a (and_then_left (each_of (group_check s) (groups_told s)) _ passed) h)
+
+  row_lawful : (r : ℕ) → r < rows_told s → lawful_row s (groups_told s) r ≡ true
+  row_lawful r h =
+      allowed (lawful_row s (groups_told s) r) _
+      (each_passed (row_check s (groups_told s)) (rows_told s) r (and_then_right (each_of (group_check s) (groups_told s)) _ passed) h)
+
+  powers_at : (a : ℕ) → a < groups_told s → PowersWithin (group_at s a)
+  powers_at a h =
+      let e = group_lawful a h in
+      record {
+        prod_max = grind (arith, nat_tests);
+        pump_depth = grind (arith, nat_tests);
+        ahead = grind (arith, nat_tests);
+        near = grind (arith, nat_tests);
+        after = grind (arith, nat_tests);
+      }
+
+  plants_at : (a : ℕ) → a < groups_told s → PlantsMetered (group_at s a)
+  plants_at a h f = let e = group_lawful a h in (grind (arith, nat_tests), grind (arith, nat_tests))
+
+  fee_at : (r : ℕ) → r < rows_told s → (row_at s (groups_told s) r).fee ≤ fee_bound
+  fee_at r h = let e = row_lawful r h in grind (arith, nat_tests)
+
+  rate_at : (r : ℕ) → r < rows_told s → (row_at s (groups_told s) r).rate ≤ rate_bound
+  rate_at r h = let e = row_lawful r h in grind (arith, nat_tests)
+
+  -- the same of a row that says what the form says
+  pub fee_read : (row : TariffRow) (r : ℕ) → r < rows_told s → rates_of row ≡ row_at s (groups_told s) r → row.fee ≤ fee_bound
+  fee_read row r h e = omega (arith, fee_at r h, ap (λ (f : RateFigures). f.fee) e)
+
+  pub rate_read : (row : TariffRow) (r : ℕ) → r < rows_told s → rates_of row ≡ row_at s (groups_told s) r → row.rate ≤ rate_bound
+  rate_read row r h e = omega (arith, rate_at r h, ap (λ (f : RateFigures). f.rate) e)
+
+  no_fall_at : (j : ℕ) → suc j < rows_told s → no_fall (row_at s (groups_told s) j) (row_at s (groups_told s) (suc j)) ≡ true
+  no_fall_at j h =
+      let back : suc j - 1 ≡ j = omega arith in
+      let e = rw back at (row_lawful (suc j) h) in
+      grind (arith, nat_tests)
+
+  fee_next : (j : ℕ) → suc j < rows_told s → (row_at s (groups_told s) j).fee ≤ (row_at s (groups_told s) (suc j)).fee
+  fee_next j h = let e = no_fall_at j h in grind (arith, nat_tests)
+
+  rate_next : (j : ℕ) → suc j < rows_told s → (row_at s (groups_told s) j).rate ≤ (row_at s (groups_told s) (suc j)).rate
+  rate_next j h = let e = no_fall_at j h in grind (arith, nat_tests)
+
+  pub fees_rise : (i j : ℕ) → i ≤ j → j < rows_told s → (row_at s (groups_told s) i).fee ≤ (row_at s (groups_told s) j).fee
+  fees_rise = rises (λ r. (row_at s (groups_told s) r).fee) (rows_told s) fee_next
+
+  pub rates_rise : (i j : ℕ) → i ≤ j → j < rows_told s → (row_at s (groups_told s) i).rate ≤ (row_at s (groups_told s) j).rate
+  rates_rise = rises (λ r. (row_at s (groups_told s) r).rate) (rows_told s) rate_next
+
+pub lawful_terms : (s : List ℕ) → sizes_check s ≡ Ok tt → rows_check s ≡ Ok tt → LawfulTerms (terms_of s)
+lawful_terms s sizes rows =
+    let f = opening_formed s sizes in
+    let m = length_groups s in
+    let n = length_tariff s in
+    record {
+      groups_least = omega arith;
+      groups_most = omega arith;
+      rows_least = omega arith;
+      rows_most = omega arith;
+      powers = λ a d h. rw (get_d_groups s a d (omega arith)) (powers_at s rows a (omega arith));
+      plants = λ a d h. rw (get_d_groups s a d (omega arith)) (plants_at s rows a (omega arith));
+      fees = λ r d h. rw (get_d_tariff s r d (omega arith)) (fee_at s rows r (omega arith));
+      rates = λ r d h. rw (get_d_tariff s r d (omega arith)) (rate_at s rows r (omega arith));
+      fees_rise = λ i j d h l. rw (get_d_tariff s i d (omega arith), get_d_tariff s j d (omega arith)) (fees_rise s rows i j h (omega arith));
+      rates_rise = λ i j d h l. rw (get_d_tariff s i d (omega arith), get_d_tariff s j d (omega arith)) (rates_rise s rows i j h (omega arith));
+    }

@@ -1,0 +1,7 @@
+use Rattle.std.proofs.Common.{rules}
+use Rattle.forms.specs.Openings.{group_at}
+use Rattle.forms.proofs.opening.OpeningReader.group.Goals as goal
+
+pub returns : goal.returns
+unfolding group_at
+returns c = search rules

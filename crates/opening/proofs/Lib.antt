@@ -1,3 +1,0 @@
-pub mod OpeningLaws
-pub mod TermLaws
-pub mod Writes

@@ -1,6 +1,0 @@
-use Rattle.std.proofs.Common.{sym}
-use Rattle.opening.proofs.OpeningLaws.{group_in}
-use Rattle.opening.proofs.terms.Opening.group.Goals as goal
-
-pub returns : goal.returns
-returns c = λ d. sym (group_in c.args.self.now c.args.a _ d c.requires)

@@ -1,0 +1,6 @@
+use Rattle.std.proofs.Common.{arith, rules}
+use Rattle.std.proofs.lemmas.Int.{ints, to_z-of_z}
+use Rattle.settlement.proofs.amounts.imbalance_cost.Goals as goal
+
+pub returns : goal.returns
+returns c = record { value = grind (arith, ints); bound = search rules }

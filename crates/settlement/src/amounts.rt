@@ -1,0 +1,75 @@
+//! Penalties and balance amounts, in whole cents.
+ghost use Rattle.std.specs.Prelude.{◌≡◌, ◌^◌, ◌<◌, ◌≤◌, map, length, ◌+ℤ◌, ◌*ℤ◌, unsigned_abs};
+ghost use Rattle.forms.specs.Figures.{rates_of};
+ghost use Rattle.settlement.specs.Sheets.{words_per_slot, on_sheet, SheetOf};
+ghost use Rattle.settlement.specs.Positions.{net_purchases};
+ghost use Rattle.settlement.specs.Amounts.{row_for, penalty as penalty_for, to_cents, imbalance_cost};
+
+use crate::sheet::Sheet;
+use forms::group::TariffRow;
+
+/// 4000 kW over a quarter hour are a MWh.
+const QUARTER_KW_PER_MWH: u64 = 4000;
+
+/// The tariff row of a stage; a stage past the last row uses the last.
+pub fn row_for(tariff: &[TariffRow], stage: u16) -> TariffRow
+    requires { 0 < length tariff.now }
+    ensures { rates_of result ≡ row_for (map rates_of tariff.now) stage }
+{
+    tariff[usize::from(stage).min(tariff.len() - 1)]
+}
+
+/// What a day costs whose excesses add to `energy`; nothing if they are 0.
+pub fn penalty(row: TariffRow, energy: u64) -> u64
+    requires { (row.rate ≤ 1000000) × (energy < 2 ^ 44) }
+    ensures value { result ≡ penalty_for (rates_of row) energy }
+    ensures bound { result < 2 ^ 52 }
+{
+    if energy == 0 {
+        return 0;
+    }
+    u64::from(row.fee) + u64::from(row.rate) * energy / QUARTER_KW_PER_MWH
+}
+
+/// A sum of 4000ths of a cent to the nearest cent, halves away from zero.
+pub fn to_cents(sum: i64) -> i64
+    ensures value { result ≡ to_cents sum }
+    ensures bound { unsigned_abs result < 2 ^ 52 }
+{
+    let cents = ((sum.unsigned_abs() + QUARTER_KW_PER_MWH / 2) / QUARTER_KW_PER_MWH) as i64;
+    if sum < 0 { -cents } else { cents }
+}
+
+// An imbalance times a price.
+fn product(imbalance: i64, price: i32) -> i64
+    requires { (unsigned_abs imbalance ≤ 68730000000) × (unsigned_abs price ≤ 1000000) }
+    ensures value { result ≡ imbalance *ℤ price }
+    ensures bound { unsigned_abs result ≤ 68730000000000000 }
+{
+    imbalance * i64::from(price)
+}
+
+// What an imbalance costs at its price, in 4000ths of a cent: short below zero, long above.
+fn imbalance_cost(imbalance: i64, long: i32, short: i32) -> i64
+    requires { (unsigned_abs imbalance ≤ 68730000000) × ((unsigned_abs long ≤ 1000000) × (unsigned_abs short ≤ 1000000)) }
+    ensures value { result ≡ imbalance_cost imbalance long short }
+    ensures bound { unsigned_abs result ≤ 68730000000000000 }
+{
+    let price = if imbalance < 0 { short } else { long };
+    -product(imbalance, price)
+}
+
+impl Sheet<'_, '_> {
+    /// What group `a`'s imbalance costs in the quarter hour `t`, in 4000ths of a cent, by its metered
+    /// feed-in in kW and the prices in cents per MWh. Below zero it is a credit.
+    pub fn quarter_cost(&self, a: usize, t: usize, feed: i32, long: i32, short: i32) -> i64
+        requires sheet { SheetOf self.now.groups self.now.sent.now self.now.words.now }
+        requires within { (a < self.now.groups) × (t < words_per_slot) }
+        requires lawful { (unsigned_abs feed ≤ 10000000) × ((unsigned_abs long ≤ 1000000) × (unsigned_abs short ≤ 1000000)) }
+        ensures value { result ≡ imbalance_cost (net_purchases (on_sheet self.now.groups self.now.sent.now self.now.words.now) self.now.groups t a +ℤ feed) long short }
+        ensures bound { unsigned_abs result ≤ 68730000000000000 }
+    {
+        let imbalance = self.sums(a, t).confirmed + i64::from(feed);
+        imbalance_cost(imbalance, long, short)
+    }
+}
