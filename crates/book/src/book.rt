@@ -81,7 +81,7 @@ impl<R: StageRule> Book<R> {
         sheet: &mut [u32],
         rows: &mut [ResultRow],
     ) -> Result<(), Fault>
-        ensures { (result, held_in self.new.inner, record { sheet = sheet.new; rows = map row_of rows.new }) ≡ closes R.meaning (held_in self.old.inner) (record { sheet = sheet.entry.now; rows = map row_of rows.old }) form.now }
+        ensures { (result, held_in self.new.inner, record { sheet = sheet.new; rows = map row_of rows.new }) ≡ closes R.meaning (held_in self.old.inner) (record { sheet = sheet.old; rows = map row_of rows.old }) form.now }
     {
         let Some(open) = &mut self.inner else {
             return Err(Fault::WrongPhase);

@@ -173,7 +173,7 @@ impl<R: StageRule> Opened<R> {
         sheet: &mut [u32],
         rows: &mut [ResultRow],
     ) -> Result<(), Fault>
-        ensures book { (result, state_of self.new.ledger, record { sheet = sheet.new; rows = map row_of rows.new }) ≡ closed_by (R.meaning self.old.rule) (state_of self.old.ledger) (record { sheet = sheet.entry.now; rows = map row_of rows.old }) form.now }
+        ensures book { (result, state_of self.new.ledger, record { sheet = sheet.new; rows = map row_of rows.new }) ≡ closed_by (R.meaning self.old.rule) (state_of self.old.ledger) (record { sheet = sheet.old; rows = map row_of rows.old }) form.now }
         ensures rule { self.new.rule ≡ self.old.rule }
     {
         let reader = self.ledger.closing(form);

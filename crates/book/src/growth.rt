@@ -82,15 +82,21 @@ fn check_less(trades: &DayTrades, consumption: &[u64], t: usize) -> i64
     trades.net(t) - consumption[t] as i64
 }
 
-/// Whether the open position of a check value is beyond the limit after the cut-off and farther out
-/// than that of the last check value.
+/// Whether an open position is beyond the limit after the cut-off and farther out than the last.
 fn farther_out(figures: &Group, next: i64, last: i64) -> bool
+    ensures { result ≡ (nat_lt 0 (excess (figures_of figures.now) After next) && not (as_far_out next last)) }
+{
+    excess(figures, Phase::After, next) > 0 && !as_far_out(next, last)
+}
+
+/// The same of the open positions of two check values.
+fn moves_out(figures: &Group, next: i64, last: i64) -> bool
     requires { (unsigned_abs next ≤ 2 ^ 37) × (unsigned_abs last ≤ 2 ^ 37) }
     ensures { result ≡ (nat_lt 0 (excess (figures_of figures.now) After (open_position (figures_of figures.now) next)) && not (as_far_out (open_position (figures_of figures.now) next) (open_position (figures_of figures.now) last))) }
 {
     let next = open_position(figures, next);
     let last = open_position(figures, last);
-    excess(figures, Phase::After, next) > 0 && !as_far_out(next, last)
+    farther_out(figures, next, last)
 }
 
 impl Ledger {
@@ -114,7 +120,7 @@ impl Ledger {
         for t in 0..quarters as usize {
             let next = check_less(&trades, &consumption, t);
             let last = day.check_value(&before, own, t);
-            if farther_out(&figures, next, last) {
+            if moves_out(&figures, next, last) {
                 return Err(Fault::GrowingPosition {
                     quarter: t as u16 + 1,
                 });

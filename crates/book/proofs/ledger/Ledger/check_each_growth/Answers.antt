@@ -11,8 +11,8 @@ use Rattle.book.proofs.ledger.Ledger.check_each_growth.Goals as goal
 pub loop-t-init : goal.loop-t-init
 loop-t-init c = each_none _
 
-pub returns-then-farther_out : goal.returns-then-farther_out
-returns-then-farther_out c =
+pub returns-then-moves_out : goal.returns-then-moves_out
+returns-then-moves_out c =
     let s : State = state_of c.args.self.now in
     let sheet = c.args.sheet.now in
     let form = c.args.reader.now.bytes.now in
@@ -28,8 +28,8 @@ returns-then-farther_out c =
     next_known s sheet form own t _ _ _ _ c.consumption_by_message-consumption.result _ c.requires.read.quarters c.groups.ensures.value
     (c.trades_by_message-trades.ensures t c.loop-t-test.true) (c.consumption_by_message-consumption.ensures.value t c.loop-t-test.true)
     (to_z-of_z w64 c.check_less-next.result (search rules) ∙ c.check_less-next.ensures.value) in
-    let grows = grows_known s sheet form own t _ _ _ _ c.farther_out.ensures c.figures-figures.ensures next last in
-    let yes = sym grows ∙ c.if-farther_out.true in
+    let grows = grows_known s sheet form own t _ _ _ _ c.moves_out.ensures c.figures-figures.ensures next last in
+    let yes = sym grows ∙ c.if-moves_out.true in
     each_exit _ _ t _ (omega (arith, c.quarters-quarters.ensures.value)) c.loop-t.invariant (search rules)
 
 pub loop-t-preserved : goal.loop-t-preserved
@@ -49,8 +49,8 @@ loop-t-preserved c =
     next_known s sheet form own t _ _ _ _ c.consumption_by_message-consumption.result _ c.requires.read.quarters c.groups.ensures.value
     (c.trades_by_message-trades.ensures t c.loop-t-test.true) (c.consumption_by_message-consumption.ensures.value t c.loop-t-test.true)
     (to_z-of_z w64 c.check_less-next.result (search rules) ∙ c.check_less-next.ensures.value) in
-    let grows = grows_known s sheet form own t _ _ _ _ c.farther_out.ensures c.figures-figures.ensures next last in
-    let no-growth = sym grows ∙ c.if-farther_out.false in
+    let grows = grows_known s sheet form own t _ _ _ _ c.moves_out.ensures c.figures-figures.ensures next last in
+    let no-growth = sym grows ∙ c.if-moves_out.false in
     each_more _ _ c.loop-t.invariant (rw no-growth)
 
 pub returns : goal.returns
