@@ -4,7 +4,7 @@ ghost use Rattle.stage.specs.Asked.{meaning_of, rule_asked};
 ghost use Rattle.settlement.specs.Sheets.{sheet_size};
 ghost use Rattle.book.specs.Rows.{row_of, no_row};
 ghost use Rattle.session.specs.Replies.{told_by, plainly};
-ghost use Rattle.session.specs.Steps.{groups_served_for, rule_made, book_opened_for, message_sent, phase_moved, day_ended, stepped_for};
+ghost use Rattle.session.specs.Steps.{groups_served_for, rule_made, book_opened_for, message_sent, phase_moved, day_ended, stepped_for, stepped};
 ghost use Rattle.session.specs.Stops.{stops_for, too_many_for, too_many_groups};
 ghost use Rattle.session.specs.Views.{view_of};
 
@@ -174,6 +174,7 @@ impl Session {
     /// Takes one frame and answers it. Want of memory, met only by an opening form, changes nothing.
     pub fn step(&mut self, heap: Global, letter: u8, body: &[u8]) -> Result<Reply, AllocError>
         ensures answer { MatchResult result (λ reply. (told_by reply, view_of self.new) ≡ stepped_for self.old.most (view_of self.old) letter body.now) (λ _. view_of self.new ≡ view_of self.old) }
+        ensures eight { self.old.most ≡ 8 → MatchResult result (λ reply. (told_by reply, view_of self.new) ≡ stepped (view_of self.old) letter body.now) (λ _. view_of self.new ≡ view_of self.old) }
         ensures most { self.new.most ≡ self.old.most }
     {
         if self.stops(letter, body) {
