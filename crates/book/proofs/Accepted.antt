@@ -1,19 +1,16 @@
 -- What an accepted message leaves: the sender's series on the sheet are those of the message.
-use Rattle.std.proofs.Common.{◌≡◌, ℕ, zero, suc, ◌+◌, ◌-◌, ◌*◌, ◌/◌, ◌%◌, ◌<◌, ◌≤◌, Bool, true, false, cond, ◌&&◌, eqb, ltb, leb, List, map, length, get_or, ℤ, pos, ◌-ℤ◌, is_some, Some, None, Option, sym, refl, ap, ◌∙◌, inl, inr, arith}
-use Rattle.std.specs.List.{range_with_len}
-use Rattle.std.specs.Option.{option_map}
+use Rattle.std.proofs.Common.{◌≡◌, ℕ, zero, suc, ◌+◌, ◌*◌, ◌<◌, ◌≤◌, Bool, false, cond, eqb, ltb, List, length, get_or, pos, ◌-ℤ◌, is_some, Some, None, Option, sym, refl, ap, ◌∙◌, inl, inr, arith}
 use Rattle.std.proofs.lemmas.List.FromFn.{get_or-map-range_with_len}
-use Rattle.std.proofs.lemmas.Bool.{cases_Bool, lt-ltb, le-ltb, eq-eqb, ne_eqb, le-leb, and_from, cond-true, cond-false, false≢true}
+use Rattle.std.proofs.lemmas.Bool.{cases_Bool, false≢true}
 use Rattle.forms.specs.Figures.{GroupFigures}
-use Rattle.forms.specs.Slots.{Slot, out_to, in_from, cons, prod, pump, kind_of, counter_of}
+use Rattle.forms.specs.Slots.{Slot, out_to, in_from, cons, kind_of, counter_of}
 use Rattle.message.specs.Places.{first_of, or_at, place_of, sent_in, stated}
 use Rattle.message.proofs.Stated.{value_missing}
 use Rattle.settlement.specs.Positions.{stated_with, stated_open, excess}
-use Rattle.settlement.specs.Sheets.{Statements, Within, slots, slot_number, slot_at, slot_place, sheet_size, on_sheet}
-use Rattle.settlement.specs.Sums.{sumℤ}
+use Rattle.settlement.specs.Sheets.{Statements, Within, slots, slot_number, slot_place, sheet_size, on_sheet}
 use Rattle.settlement.proofs.Places.{number_below, place_below, slot_again, on_sheet_sent, on_sheet_unsent}
 use Rattle.settlement.proofs.Sums.{sumℤ-same}
-use Rattle.book.specs.Messages.{owns, own_slot, sent_after, word_after, sheet_after, flags_after, by_message, count_where, state_with, beyond_now, beyond_at}
+use Rattle.book.specs.Messages.{sent_after, word_after, sheet_after, flags_after, by_message, count_where, state_with, beyond_now, beyond_at}
 use Rattle.book.specs.States.{State, size, figures, today, day_quarters}
 use Rattle.book.proofs.Days.{quarters_fit}
 use Rattle.book.proofs.ByMessage.{by_sender}

@@ -1,5 +1,5 @@
 -- The book's own places of the ledger's arrays.
-use Rattle.std.proofs.Common.{◌≡◌, ℕ, ◌*◌, ◌<◌, ◌≤◌, List, map, length, get_or, take, set, replicate, sym, refl, ap, ◌∙◌, inl, inr, arith}
+use Rattle.std.proofs.Common.{◌≡◌, ℕ, ◌<◌, ◌≤◌, List, map, length, get_or, set, replicate, sym, ap, ◌∙◌, inl, inr, arith}
 use Rattle.std.proofs.lemmas.List.{map-set, get_or-map, get_or-take, get_or_past, get_or-set_same, get_or-set_other, same_lists, length-set, get_or-replicate, length-map, length-replicate, length-take-le}
 use Rattle.std.proofs.lemmas.Bool.{cases_eq, cases_lt}
 use Rattle.forms.proofs.Writes.{set_keeps}

@@ -1,9 +1,8 @@
 -- The outcome of close, by what its tests find.
-use Rattle.std.proofs.Common.{◌≡◌, ℕ, Bool, List, length, replicate, Ok, Err, sym, refl, ap, ◌∙◌}
+use Rattle.std.proofs.Common.{◌≡◌, ℕ, Bool, List, length, replicate, Ok, Err, refl}
 use Rattle.forms.specs.declared.fault.Fault.{Fault}
 use Rattle.forms.specs.Checks.{Verdict}
-use Rattle.book.specs.Closes.{Lent, close_check, closed_by, day_closed, day_rows, balance_today, lent_if}
-use Rattle.book.specs.Cuts.{state_if}
+use Rattle.book.specs.Closes.{Lent, close_check, closed_by, day_closed, day_rows, balance_today}
 use Rattle.book.specs.States.{State}
 
 module _ (m : List Bool → ℕ) (s : State) (lent : Lent) (form : List ℕ) where

@@ -1,5 +1,5 @@
 -- A day's costs, one quarter hour after another.
-use Rattle.std.proofs.Common.{◌≡◌, ℕ, ◌+◌, List, ℤ, pos, ◌+ℤ◌}
+use Rattle.std.proofs.Common.{◌≡◌, ℕ, ◌+◌, List, pos, ◌+ℤ◌}
 use Rattle.settlement.proofs.Excesses.{day_cost_none, day_cost_more}
 use Rattle.book.specs.Closes.{quarter_today, cost_today}
 use Rattle.book.specs.States.{State}

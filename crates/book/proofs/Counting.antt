@@ -1,5 +1,5 @@
 -- Counts and first places, one step on.
-use Rattle.std.proofs.Common.{◌≡◌, ℕ, ◌+◌, Bool, true, false, cond, Some, None, Option, refl, ap, ◌∙◌, add-zero, add-one}
+use Rattle.std.proofs.Common.{◌≡◌, ℕ, ◌+◌, Bool, true, false, Some, None, Option, refl, add-zero, add-one}
 use Rattle.std.specs.Option.{option_map, option_or}
 use Rattle.message.specs.Places.{first_of, or_at}
 use Rattle.book.specs.Messages.{count_where}

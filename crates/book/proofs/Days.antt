@@ -1,5 +1,5 @@
 -- A day's quarter hours fit the words of a slot, and the flags are enough for all slots.
-use Rattle.std.proofs.Common.{◌≡◌, ℕ, ◌+◌, ◌*◌, ◌≤◌, arith, lit≤}
+use Rattle.std.proofs.Common.{ℕ, ◌+◌, ◌*◌, ◌≤◌, arith, lit≤}
 use Rattle.std.proofs.lemmas.Nat.{mul-le}
 use Rattle.forms.specs.Calendar.{quarters}
 use Rattle.settlement.specs.Sheets.{words_per_slot, slots}

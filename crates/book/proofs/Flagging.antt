@@ -1,12 +1,11 @@
 -- The presence flags while a message is taken, slot by slot of the sender.
-use Rattle.std.proofs.Common.{◌≡◌, ℕ, ◌+◌, ◌-◌, ◌*◌, ◌<◌, ◌≤◌, Bool, true, false, cond, ◌&&◌, ltb, leb, List, map, length, get_or, set, sym, refl, ap, ◌∙◌, inl, inr, add-mul, arith}
-use Rattle.std.specs.List.{range_with_len}
+use Rattle.std.proofs.Common.{◌≡◌, ℕ, ◌+◌, ◌-◌, ◌*◌, ◌<◌, ◌≤◌, Bool, false, cond, ltb, List, length, get_or, set, sym, ap, ◌∙◌, inl, inr, add-mul, arith}
 use Rattle.std.proofs.lemmas.List.FromFn.{fill_by_all}
 use Rattle.std.proofs.lemmas.List.{get_or-set_same, get_or-set_other}
 use Rattle.std.proofs.lemmas.Bool.{cases_eq, cases_lt, lt-ltb, le-ltb, le-leb, lt-leb, and_from, and_left, and_right, cond-true, cond-false}
 use Rattle.message.specs.Places.{sent_in}
 use Rattle.settlement.specs.Sheets.{slots, slot_at}
-use Rattle.book.specs.Messages.{owns, own_slot, sent_after, flags_after}
+use Rattle.book.specs.Messages.{sent_after, flags_after}
 
 -- the flags once the first n slots of the sender are as the message leaves them
 unfoldable pub flags_laid : ℕ → ℕ → List ℕ → ℕ → List Bool → ℕ → Bool

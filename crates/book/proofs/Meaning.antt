@@ -1,5 +1,5 @@
 -- What the outcome of a message means.
-use Rattle.std.proofs.Common.{◌≡◌, ℕ, ◌+◌, ◌-◌, ◌*◌, ◌/◌, ◌<◌, ◌≤◌, Bool, true, false, cond, ◌&&◌, eqb, ltb, leb, List, length, get_or, set, Some, None, Ok, Err, Result, unwrap_or, sym, refl, ap, ◌∙◌, inl, inr, add-mul, arith}
+use Rattle.std.proofs.Common.{◌≡◌, ℕ, ◌+◌, ◌-◌, ◌*◌, ◌/◌, ◌<◌, ◌≤◌, Bool, true, false, cond, eqb, leb, List, length, get_or, set, Some, None, Ok, Err, unwrap_or, sym, refl, ap, ◌∙◌, inl, inr, arith}
 use Rattle.std.proofs.lemmas.Nat.{mul-add-lt, mul-le}
 use Rattle.std.proofs.lemmas.List.FromFn.{get_or-map-range_with_len}
 use Rattle.std.proofs.lemmas.List.{get_or-set_same, get_or-set_other, get_or_past, length-set}
@@ -9,12 +9,11 @@ use Rattle.forms.specs.Slots.{Slot}
 use Rattle.forms.specs.declared.fault.Fault.TheVariants.{WrongPhase, WrongBuffer, WrongGroup}
 use Rattle.forms.proofs.Firsts.{and_then_left, and_then_right, allowed}
 use Rattle.message.specs.Form.{header_of, said}
-use Rattle.message.specs.Places.{stated}
 use Rattle.settlement.specs.Sheets.{Within, slots, slot_number, slot_place, sheet_size, on_sheet}
 use Rattle.settlement.proofs.Places.{number_below, place_below}
 use Rattle.book.specs.Cuts.{state_if}
 use Rattle.book.specs.Meant.{MessageStands, MessageFixesNothing}
-use Rattle.book.specs.Messages.{sent_after, word_after, sheet_after, flags_after, submit_check, sender_check, series_check, passed, with_version, state_with, beyond_count, submitted}
+use Rattle.book.specs.Messages.{sent_after, word_after, sheet_after, flags_after, submit_check, sender_check, series_check, passed, with_version, state_with, beyond_count}
 use Rattle.book.specs.Queries.{one_of, day_check, group_check}
 use Rattle.book.specs.Sheets.{sheet_fits, all_powers}
 use Rattle.book.specs.States.{State, GroupState, nothing_kept, size, kept, today, day_quarters, year_over, statements}

@@ -1,5 +1,5 @@
 -- The tests of a message, one after another.
-use Rattle.std.proofs.Common.{◌≡◌, ℕ, ◌-◌, List, Ok, Err, Option, Result, sym, refl, ap, ◌∙◌}
+use Rattle.std.proofs.Common.{◌≡◌, ℕ, ◌-◌, List, Ok, Err, Option, Result, refl, ap}
 use Rattle.forms.specs.declared.fault.Fault.{Fault}
 use Rattle.forms.specs.Checks.{Verdict, and_then}
 use Rattle.message.specs.declared.Header.{Header}

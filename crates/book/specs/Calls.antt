@@ -1,5 +1,5 @@
 -- What each call makes of a place, empty or with a book. A call on an empty place is refused, ahead of every other test.
-use Rattle.std.specs.Prelude.{ℕ, Bool, List, ℤ, Some, None, Ok, Err, Option, Result}
+use Rattle.std.specs.Prelude.{ℕ, Bool, List, ℤ, Some, None, Err, Option, Result}
 use Rattle.forms.specs.declared.fault.Fault.{Fault}
 use Rattle.forms.specs.declared.fault.Fault.TheVariants.{WrongPhase}
 use Rattle.forms.specs.Checks.{Verdict}

@@ -1,18 +1,17 @@
 -- What close does.
-use Rattle.std.specs.Prelude.{◌≡◌, ℕ, ◌+◌, Bool, true, false, cond, not, ◌&&◌, List, [], ◌∷◌, ◌++◌, map, length, replicate, ℤ, ◌+ℤ◌, Ok, Err, ◌==◌}
+use Rattle.std.specs.Prelude.{◌≡◌, ℕ, ◌+◌, Bool, false, not, List, map, length, replicate, ℤ, ◌+ℤ◌, Ok, Err, ◌==◌}
 use Rattle.std.specs.List.{range_with_len}
 use Rattle.forms.specs.declared.fault.Fault.TheVariants.{WrongPhase, WrongBuffer}
 use Rattle.forms.specs.Checks.{Verdict, and_then, refuse_if}
 use Rattle.forms.specs.Closings.{ClosingFormed, closing_sizes, closing_check, feed_in, long_price, short_price}
 use Rattle.stage.specs.Marked.{on_day}
-use Rattle.settlement.specs.declared.phase.Phase.{Phase}
 use Rattle.settlement.specs.declared.phase.Phase.TheVariants.{Ahead}
 use Rattle.settlement.specs.Amounts.{imbalance_cost, day_cost, balance_amount}
 use Rattle.settlement.specs.Positions.{net_purchases}
 use Rattle.book.specs.Cuts.{is_after, state_if}
 use Rattle.book.specs.Rows.{Row}
 use Rattle.book.specs.Queries.{day_check}
-use Rattle.book.specs.States.{State, GroupState, all_flags, size, kept, today, day_quarters, year_over, statements}
+use Rattle.book.specs.States.{State, GroupState, all_flags, size, kept, today, day_quarters, statements}
 
 -- What the caller lends a call.
 pub record Lent : Type 0 where

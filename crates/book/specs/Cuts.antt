@@ -1,7 +1,7 @@
 -- What advance does.
-use Rattle.std.specs.Prelude.{ℕ, ◌+◌, Bool, true, false, cond, not, ◌||◌, List, [], ◌∷◌, ◌++◌, map, Ok, Err}
+use Rattle.std.specs.Prelude.{ℕ, ◌+◌, Bool, true, false, List, [], ◌∷◌, ◌++◌, map, Ok, Err}
 use Rattle.std.specs.List.{range_with_len}
-use Rattle.forms.specs.declared.fault.Fault.TheVariants.{WrongPhase, WrongBuffer}
+use Rattle.forms.specs.declared.fault.Fault.TheVariants.{WrongPhase}
 use Rattle.forms.specs.Figures.{RateFigures}
 use Rattle.forms.specs.Checks.{Verdict, and_then, refuse_if}
 use Rattle.settlement.specs.declared.phase.Phase.{Phase}
@@ -9,7 +9,7 @@ use Rattle.settlement.specs.declared.phase.Phase.TheVariants.{Ahead, Near, After
 use Rattle.settlement.specs.Positions.{day_excess}
 use Rattle.settlement.specs.Amounts.{is_marked, row_for, penalty}
 use Rattle.book.specs.Queries.{day_check}
-use Rattle.book.specs.States.{State, GroupState, size, figures, kept, day_quarters, year_over, statements}
+use Rattle.book.specs.States.{State, GroupState, size, figures, kept, day_quarters, statements}
 
 abbrev pub is_after : Phase → Bool
 is_after Ahead = false

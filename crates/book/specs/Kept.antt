@@ -1,5 +1,5 @@
 -- How far a book has come, and how large its totals can be by then.
-use Rattle.std.specs.Prelude.{ℕ, ◌+◌, List, unsigned_abs}
+use Rattle.std.specs.Prelude.{ℕ, ◌+◌, unsigned_abs}
 use Rattle.settlement.specs.declared.phase.Phase.{Phase}
 use Rattle.settlement.specs.declared.phase.Phase.TheVariants.{Ahead, Near, After}
 use Rattle.book.specs.declared.group_account.GroupAccount.{GroupAccount}

@@ -1,17 +1,16 @@
 -- What submit does.
-use Rattle.std.specs.Prelude.{◌≡◌, ℕ, zero, suc, ◌+◌, ◌-◌, ◌*◌, ◌/◌, ◌%◌, ◌<◌, Bool, true, false, cond, not, ◌&&◌, ◌||◌, List, map, length, is_some, Some, None, Ok, Err, Option, Result, ◌==◌, nat_le, nat_lt, slice_index, slice_index_or, slice_set}
+use Rattle.std.specs.Prelude.{◌≡◌, ℕ, zero, suc, ◌+◌, ◌-◌, ◌*◌, ◌/◌, ◌%◌, ◌<◌, Bool, false, cond, not, ◌&&◌, ◌||◌, List, map, length, is_some, Ok, Err, Option, Result, ◌==◌, nat_le, nat_lt, slice_index, slice_index_or, slice_set}
 use Rattle.std.specs.List.{range_with_len}
 use Rattle.std.specs.Option.{option_map}
 use Rattle.forms.specs.declared.fault.Fault.{Fault}
 use Rattle.forms.specs.declared.fault.Fault.TheVariants.{WrongDay, WrongVersion, MissingSeries, GrowingPosition}
 use Rattle.forms.specs.Checks.{Verdict, and_then, refuse_if, each_of}
-use Rattle.forms.specs.Slots.{Slot, out_to, in_from, cons, prod, pump}
+use Rattle.forms.specs.Slots.{Slot, cons, prod, pump}
 use Rattle.message.specs.Form.{Formed, header_of, said, value_at}
 use Rattle.message.specs.Heads.{heads_check}
 use Rattle.message.specs.Values.{values_check}
 use Rattle.message.specs.Places.{first_of, sent_in, stated}
-use Rattle.settlement.specs.declared.phase.Phase.{Phase}
-use Rattle.settlement.specs.declared.phase.Phase.TheVariants.{Ahead, Near, After}
+use Rattle.settlement.specs.declared.phase.Phase.TheVariants.{After}
 use Rattle.settlement.specs.Positions.{stated_open, excess, as_far_out}
 use Rattle.settlement.specs.Sheets.{Statements, slots, slot_at, sheet_size, words_per_slot}
 use Rattle.book.specs.declared.answers.Submitted.{Submitted}

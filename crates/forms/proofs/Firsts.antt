@@ -1,5 +1,5 @@
 -- Checks one after another: a loop's start, step and exit, and the theorem that the earliest fault answers.
-use Rattle.std.proofs.Common.{◌≡◌, ℕ, zero, suc, ◌+◌, ◌<◌, ◌≤◌, Bool, true, false, not, ◌⊎◌, Ok, Err, sym, refl, subst, inl, inr, add-one, arith, MatchResult}
+use Rattle.std.proofs.Common.{◌≡◌, ℕ, zero, suc, ◌+◌, ◌<◌, Bool, true, false, not, Ok, Err, sym, refl, subst, inl, inr, add-one, arith, MatchResult}
 use Rattle.std.proofs.lemmas.Bool.{cases_order, not-false}
 use Rattle.forms.specs.declared.fault.Fault.{Fault}
 use Rattle.forms.specs.Checks.{Verdict, and_then, refuse_if, each_of, Earliest, EarliestAnswers}

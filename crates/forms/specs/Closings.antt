@@ -1,6 +1,6 @@
 -- The closing form of a day with g groups and q quarter hours: a byte g, a byte q, then g + 2 series of q signed numbers,
 -- namely the feed-ins of each group, the long prices and the short prices. Series and quarter hours count from 0 here.
-use Rattle.std.specs.Prelude.{◌≡◌, ℕ, ◌+◌, ◌*◌, Bool, cond, not, ◌&&◌, List, length, ℤ, ◌==◌, nat_lt, unsigned_abs}
+use Rattle.std.specs.Prelude.{◌≡◌, ℕ, ◌+◌, ◌*◌, cond, not, ◌&&◌, List, length, ℤ, ◌==◌, nat_lt, unsigned_abs}
 use Rattle.forms.specs.declared.fault.Fault.TheVariants.{ShortForm, WrongSize, WrongLength, OutOfRange}
 use Rattle.forms.specs.Bounds.{power_bound, price_bound}
 use Rattle.forms.specs.Bytes.{byte, signed32}

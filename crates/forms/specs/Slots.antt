@@ -1,5 +1,5 @@
 -- What a series is about. Groups count from 0 here; in the bytes of a head they count from 1.
-use Rattle.std.specs.Prelude.{ℕ, ◌+◌, Bool, cond}
+use Rattle.std.specs.Prelude.{ℕ, ◌+◌}
 use Rattle.forms.specs.declared.slot.Slot as src
 use Rattle.forms.specs.declared.slot.Slot.TheVariants as src-slot
 

@@ -1,20 +1,19 @@
 -- An accepted advance.
-use Rattle.std.proofs.Common.{◌≡◌, ℕ, ◌+◌, ◌-◌, ◌*◌, ◌/◌, ◌<◌, ◌≤◌, Bool, true, false, List, [], ◌∷◌, ◌++◌, length, get_or, Ok, Err, sym, refl, ap, ◌∙◌, arith}
+use Rattle.std.proofs.Common.{◌≡◌, ℕ, ◌+◌, ◌-◌, ◌*◌, ◌<◌, List, [], ◌∷◌, ◌++◌, Ok, sym, refl, ap, ◌∙◌, arith}
 use Rattle.std.proofs.lemmas.List.FromFn.{get_or-map-range_with_len}
 use Rattle.std.proofs.lemmas.Bool.{leb-false}
 use Rattle.forms.specs.Calendar.{quarters, days}
-use Rattle.forms.specs.Checks.{Verdict, and_then, refuse_if}
-use Rattle.forms.specs.declared.fault.Fault.TheVariants.{WrongPhase, WrongBuffer}
-use Rattle.forms.proofs.Firsts.{and_then_left, and_then_right, unrefused}
-use Rattle.settlement.specs.declared.phase.Phase.{Phase}
+use Rattle.forms.specs.Checks.{refuse_if}
+use Rattle.forms.specs.declared.fault.Fault.TheVariants.{WrongPhase}
+use Rattle.forms.proofs.Firsts.{and_then_left, unrefused}
 use Rattle.settlement.specs.declared.phase.Phase.TheVariants.{Ahead, Near, After}
 use Rattle.settlement.specs.Amounts.{is_marked, row_for, penalty}
 use Rattle.settlement.specs.Positions.{day_excess}
 use Rattle.settlement.proofs.Agreement.{day_excess_same}
-use Rattle.book.specs.Cuts.{advance_check, is_after, excess_today, past_cut_off, cut_off, in_phase}
+use Rattle.book.specs.Cuts.{excess_today, past_cut_off, cut_off, in_phase}
 use Rattle.book.specs.Queries.{day_check}
-use Rattle.book.specs.States.{State, GroupState, nothing_kept, size, figures, kept, day_quarters, year_over, statements}
-use Rattle.journal.specs.Journals.{Entry, advance, Journal, advanced_here, closed_here, advances, closes, cut_offs, today, at_cut_off, says}
+use Rattle.book.specs.States.{State, nothing_kept, size, figures, kept, day_quarters, year_over, statements}
+use Rattle.journal.specs.Journals.{Entry, advance, Journal, advanced_here, closed_here, advances, closes, cut_offs, today, says}
 use Rattle.journal.specs.Reckoned.{Meaning, excess_on, mark, marks_to, penalty_on, penalties}
 use Rattle.journal.proofs.Counting.{one_more, no_more, before_now}
 use Rattle.journal.proofs.Keeping.{Keeps, advances_in, marks_still, penalties_still, balance_still, marks_more, penalties_more}

@@ -1,12 +1,12 @@
 -- Each answer that is no refusal is the number reckoned from the journal.
-use Rattle.std.proofs.Common.{◌≡◌, ℕ, zero, suc, ◌+◌, ◌-◌, ◌*◌, ◌/◌, ◌<◌, ◌≤◌, Bool, true, false, cond, not, ◌&&◌, eqb, ltb, leb, List, ◌∷◌, map, length, take, ℤ, Ok, Err, Option, Result, sym, refl, ap, ◌∙◌, arith}
+use Rattle.std.proofs.Common.{◌≡◌, ℕ, ◌+◌, ◌-◌, ◌*◌, ◌<◌, ◌≤◌, Bool, true, not, ◌&&◌, eqb, ltb, leb, List, ◌∷◌, map, take, ℤ, Ok, Option, sym, refl, ap, ◌∙◌, arith}
 use Rattle.std.specs.List.{range_with_len}
 use Rattle.std.specs.Option.{option_map}
 use Rattle.std.proofs.lemmas.List.FromFn.{take-map-range_with_len}
 use Rattle.std.proofs.lemmas.Bool.{leb-true, and_parts}
 use Rattle.forms.specs.declared.fault.Fault.TheVariants.{WrongGroup, WrongDay, OutOfRange}
 use Rattle.forms.specs.Calendar.{quarters}
-use Rattle.forms.specs.Checks.{Verdict, and_then, refuse_if}
+use Rattle.forms.specs.Checks.{refuse_if}
 use Rattle.forms.proofs.Firsts.{and_then_left, and_then_right, allowed}
 use Rattle.message.specs.Form.{said}
 use Rattle.message.specs.Places.{first_of, stated}
@@ -14,21 +14,20 @@ use Rattle.stage.specs.Marked.{on_day}
 use Rattle.settlement.specs.declared.phase.Phase.{Phase}
 use Rattle.settlement.specs.declared.phase.Phase.TheVariants.{Ahead, Near, After}
 use Rattle.settlement.specs.Positions.{stated_open, confirmed_open, net_purchases, confirmed, excess}
-use Rattle.settlement.proofs.Agreement.{Agree, confirmed_same, net_purchases_same, stated_open_same, confirmed_open_same}
-use Rattle.book.specs.Closes.{day_row, day_rows, balance_today}
+use Rattle.settlement.proofs.Agreement.{confirmed_same, net_purchases_same, stated_open_same, confirmed_open_same}
+use Rattle.book.specs.Closes.{day_row, day_rows}
 use Rattle.book.specs.Kept as state-kept
 use Rattle.book.specs.Messages.{submit_check, by_message, beyond_at, beyond_count, count_where}
 use Rattle.book.specs.Queries.{one_of, day_check, group_check, quarter_check, position_check, position_of, trade_check, standing_check}
 use Rattle.book.specs.Rows.{Row}
-use Rattle.book.specs.States.{State, size, figures, kept, today, day_quarters, statements}
+use Rattle.book.specs.States.{State, size, figures, kept, day_quarters, statements}
 use Rattle.book.proofs.Accepted.{stated_open_own, count_same, first_same}
 use Rattle.book.proofs.ByMessage.{by_sender}
 use Rattle.book.proofs.Meaning.{sender_named}
 use Rattle.journal.specs.Journals as journals
 use Rattle.journal.specs.Journals.{Entry, submit, close, Journal, advances, closes, cut_offs, phase_of, phase, says}
-use Rattle.journal.specs.Reckoned.{Meaning, mark, marks_to, stage, penalty_on, penalties, balance_on, balance, row, beyond, count_beyond}
+use Rattle.journal.specs.Reckoned.{Meaning, mark, marks_to, stage, penalties, balance, row, beyond, count_beyond}
 use Rattle.journal.proofs.Closing.{balance_found}
-use Rattle.journal.proofs.Counting.{no_more}
 use Rattle.journal.proofs.Earlier.{mapped_same, marks_kept, penalty_kept}
 use Rattle.journal.proofs.Keeping.{Keeps, advances_in}
 use Rattle.journal.proofs.Parts.{on_day_mark}

@@ -1,13 +1,12 @@
 -- An accepted close.
-use Rattle.std.proofs.Common.{◌≡◌, ℕ, ◌+◌, ◌-◌, ◌*◌, ◌/◌, ◌<◌, ◌≤◌, Bool, true, false, List, ◌∷◌, map, length, get_or, replicate, ℤ, ◌+ℤ◌, Ok, Err, sym, refl, ap, ◌∙◌, inl, inr, arith}
-use Rattle.std.specs.List.{range_with_len}
+use Rattle.std.proofs.Common.{◌≡◌, ℕ, ◌+◌, ◌-◌, ◌/◌, ◌<◌, Bool, false, List, ◌∷◌, length, get_or, replicate, ◌+ℤ◌, Ok, sym, refl, ap, ◌∙◌, inl, inr, arith}
 use Rattle.std.proofs.lemmas.List.FromFn.{get_or-map-range_with_len}
 use Rattle.std.proofs.lemmas.List.{get_or-replicate, get_or_past, length-replicate}
 use Rattle.std.proofs.lemmas.Bool.{cases_lt}
 use Rattle.forms.specs.Calendar.{quarters}
 use Rattle.forms.specs.Closings.{feed_in, long_price, short_price}
 use Rattle.forms.specs.Slots.{Slot}
-use Rattle.settlement.specs.declared.phase.Phase.TheVariants.{Ahead, After}
+use Rattle.settlement.specs.declared.phase.Phase.TheVariants.{After}
 use Rattle.settlement.specs.Amounts.{balance_amount, to_cents}
 use Rattle.settlement.specs.Sheets.{slot_place}
 use Rattle.settlement.proofs.Agreement.{day_cost_same}

@@ -1,5 +1,5 @@
 -- What is reckoned of earlier days stays when an entry is added.
-use Rattle.std.proofs.Common.{◌≡◌, ℕ, ◌+◌, ◌-◌, ◌*◌, ◌/◌, ◌<◌, ◌≤◌, Bool, false, List, ◌∷◌, map, length, get_or, sym, refl, ap, ◌∙◌, arith}
+use Rattle.std.proofs.Common.{◌≡◌, ℕ, ◌+◌, ◌-◌, ◌*◌, ◌<◌, ◌≤◌, ◌∷◌, map, length, ap, ◌∙◌, arith}
 use Rattle.std.specs.List.{range_with_len}
 use Rattle.std.proofs.lemmas.List.FromFn.{length-map-range_with_len, get_or-map-range_with_len, fill_by_all}
 use Rattle.forms.specs.Calendar.{quarters}
@@ -7,9 +7,8 @@ use Rattle.forms.specs.Closings.{feed_in, long_price, short_price}
 use Rattle.forms.specs.Figures.{Terms}
 use Rattle.settlement.specs.Amounts.{is_marked, row_for, penalty, balance_amount}
 use Rattle.settlement.specs.Positions.{day_excess}
-use Rattle.settlement.proofs.Sums.{sumℕ-same, sumℤ-same}
-use Rattle.journal.specs.Journals.{Entry, Journal, advanced_here, closed_here, advances, closes, cut_offs, at_cut_off, at_close, closing_form, says}
-use Rattle.journal.specs.Reckoned.{Meaning, groups, figures, excess_on, mark, marks_to, stage, penalty_on, balance_on}
+use Rattle.journal.specs.Journals.{Entry, Journal, advanced_here, closed_here, closes, cut_offs, says}
+use Rattle.journal.specs.Reckoned.{Meaning, groups, figures, excess_on, mark, marks_to, penalty_on, balance_on}
 use Rattle.journal.proofs.Counting.{before_kept, form_kept}
 
 -- the same of every place, the same list

@@ -1,5 +1,5 @@
 -- What a book holds is what is reckoned from its journal.
-use Rattle.std.proofs.Common.{◌≡◌, ℕ, ◌+◌, ◌-◌, ◌*◌, ◌/◌, ◌<◌, ◌≤◌, Bool, true, false, cond, List, [], ◌∷◌, ◌++◌, length, ℤ, ◌+ℤ◌, sym, refl, ap, ◌∙◌, arith}
+use Rattle.std.proofs.Common.{◌≡◌, ℕ, ◌+◌, ◌*◌, ◌<◌, ◌≤◌, List, [], ◌∷◌, ◌++◌, length, ◌+ℤ◌, sym, ap, ◌∙◌, arith}
 use Rattle.std.proofs.lemmas.List.FromFn.{map-range_with_len_more}
 use Rattle.forms.specs.Calendar.{quarters}
 use Rattle.forms.specs.Figures.{Terms}
@@ -10,7 +10,7 @@ use Rattle.settlement.specs.Sums.{sumℕ, sumℤ}
 use Rattle.settlement.proofs.Agreement.{Agree}
 use Rattle.settlement.proofs.Sums.{sumℕ-same, sumℕ-more, sumℤ-same, sumℤ-more}
 use Rattle.book.specs.States.{State, all_flags, size, kept, statements}
-use Rattle.journal.specs.Journals.{Entry, Journal, advanced_here, closed_here, advances, closes, cut_offs, today, says}
+use Rattle.journal.specs.Journals.{Entry, Journal, advances, closes, cut_offs, today, says}
 use Rattle.journal.specs.Reckoned.{Meaning, mark, marks_to, penalty_on, penalties, balance_on, balance}
 use Rattle.journal.proofs.Earlier.{marks_kept, penalty_kept, balance_kept}
 

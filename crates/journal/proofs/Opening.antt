@@ -1,25 +1,24 @@
 -- A book that has just been opened.
-use Rattle.std.proofs.Common.{◌≡◌, ℕ, ◌+◌, ◌*◌, ◌/◌, ◌<◌, ◌≤◌, Bool, true, false, not, eqb, List, [], length, get_or, replicate, ℤ, pos, Some, None, Ok, Err, Option, sym, refl, ap, ◌∙◌, arith}
+use Rattle.std.proofs.Common.{◌≡◌, ℕ, ◌+◌, ◌/◌, ◌<◌, Bool, false, not, eqb, List, [], length, replicate, pos, Some, None, Ok, Option, sym, refl, ap, ◌∙◌, arith}
 use Rattle.std.proofs.lemmas.List.{get_or-replicate, length-replicate}
 use Rattle.std.proofs.lemmas.Bool.{eqb-true, and_parts}
 use Rattle.forms.specs.declared.fault.Fault.TheVariants.{WrongBuffer}
-use Rattle.forms.specs.Checks.{Verdict, and_then, refuse_if}
-use Rattle.forms.specs.Openings.{sizes_check, rows_check, groups_told, terms_of, LawfulTerms}
+use Rattle.forms.specs.Checks.{refuse_if}
+use Rattle.forms.specs.Openings.{sizes_check, groups_told, terms_of, LawfulTerms}
 use Rattle.forms.specs.Slots.{Slot}
 use Rattle.forms.proofs.Firsts.{and_then_left, and_then_right, allowed}
 use Rattle.forms.proofs.TermLaws.{length_groups, lawful_terms}
-use Rattle.settlement.specs.declared.phase.Phase.TheVariants.{Ahead}
 use Rattle.settlement.specs.Laws.{NeverFalls}
-use Rattle.settlement.specs.Sheets.{slots, slot_place, sheet_size}
+use Rattle.settlement.specs.Sheets.{slot_place, sheet_size}
 use Rattle.settlement.specs.Sums.{sumℕ, sumℤ}
 use Rattle.settlement.proofs.Places.{on_sheet_unsent}
 use Rattle.settlement.proofs.Sums.{sumℕ-none, sumℤ-none}
 use Rattle.book.specs.Cuts.{sheet_if}
 use Rattle.book.specs.Opens.{new_book, open_check, place_if, opened_by}
 use Rattle.book.specs.Sheets.{sheet_fits, all_powers}
-use Rattle.book.specs.States.{State, GroupState, all_flags, nothing_kept, size, kept, statements}
+use Rattle.book.specs.States.{State, all_flags, nothing_kept, kept, statements}
 use Rattle.book.proofs.Days.{flags_enough}
-use Rattle.journal.specs.Journals.{Journal, advances, closes, cut_offs, how_many, says, last_message}
+use Rattle.journal.specs.Journals.{advances, closes, cut_offs, how_many, says, last_message}
 use Rattle.journal.specs.Reckoned.{Meaning, marks_to, penalty_on, penalties, balance_on, balance}
 use Rattle.journal.proofs.Advancing.{ahead_not_after}
 use Rattle.journal.proofs.Closing.{unset}

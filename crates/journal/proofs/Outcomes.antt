@@ -1,5 +1,5 @@
 -- What an answer says of the tests behind it.
-use Rattle.std.proofs.Common.{◌≡◌, ℕ, Ok, Err, Result, sym, refl, ap, ◌∙◌, arith}
+use Rattle.std.proofs.Common.{◌≡◌, ℕ, Ok, Err, refl, arith}
 use Rattle.forms.specs.declared.fault.Fault.{Fault}
 use Rattle.forms.specs.Checks.{Verdict}
 use Rattle.book.specs.Queries.{answer_if}

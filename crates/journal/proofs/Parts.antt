@@ -1,13 +1,12 @@
 -- The parts of the theorem that follow from the reckoning alone.
-use Rattle.std.proofs.Common.{◌≡◌, ℕ, ◌+◌, ◌-◌, ◌*◌, ◌<◌, ◌≤◌, Bool, true, false, List, ◌∷◌, length, get_or, sym, refl, ap, ◌∙◌, arith}
-use Rattle.std.specs.List.{range_with_len}
+use Rattle.std.proofs.Common.{◌≡◌, ℕ, ◌+◌, ◌-◌, ◌<◌, ◌≤◌, true, false, sym, ap, ◌∙◌, arith}
 use Rattle.std.proofs.lemmas.List.FromFn.{get_or-map-range_with_len}
 use Rattle.std.proofs.lemmas.Bool.{ltb-true, lt-ltb}
 use Rattle.forms.specs.Calendar.{quarters}
 use Rattle.forms.specs.Figures.{Terms}
 use Rattle.stage.specs.Marked.{Under, on_day}
 use Rattle.stage.specs.MarkLists.{on_day_next, under_from_days}
-use Rattle.settlement.specs.Amounts.{is_marked, row_for, penalty}
+use Rattle.settlement.specs.Amounts.{is_marked}
 use Rattle.settlement.specs.Laws.{NeverFalls}
 use Rattle.settlement.specs.Positions.{as_far_out}
 use Rattle.settlement.specs.Sums.{sumℕ}

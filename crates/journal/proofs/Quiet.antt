@@ -1,10 +1,10 @@
 -- Entries that move nothing: questions, and whatever was refused.
-use Rattle.std.proofs.Common.{◌≡◌, ℕ, ◌+◌, ◌*◌, ◌/◌, ◌<◌, ◌≤◌, Bool, true, false, cond, List, ◌∷◌, None, sym, refl, ap, ◌∙◌, arith}
+use Rattle.std.proofs.Common.{◌≡◌, ℕ, ◌+◌, ◌*◌, ◌/◌, false, List, ◌∷◌, None, sym, refl, ap, ◌∙◌, arith}
 use Rattle.forms.specs.Calendar.{quarters}
 use Rattle.forms.specs.Slots.{Slot}
 use Rattle.settlement.specs.declared.phase.Phase.TheVariants.{After}
-use Rattle.book.specs.States.{State, kept}
-use Rattle.journal.specs.Journals.{Entry, Journal, advanced_here, closed_here, message_in, advances, closes, cut_offs, today, says, last_message}
+use Rattle.book.specs.States.{State}
+use Rattle.journal.specs.Journals.{Entry, Journal, advanced_here, closed_here, message_in, closes, cut_offs, today, says, last_message}
 use Rattle.journal.specs.Reckoned.{Meaning, penalty_on}
 use Rattle.journal.proofs.Counting.{no_more}
 use Rattle.journal.proofs.Earlier.{penalty_kept}

@@ -1,9 +1,8 @@
 -- The whole journal, entry by entry.
-use Rattle.std.proofs.Common.{◌≡◌, ℕ, ◌-◌, ◌<◌, ◌≤◌, Bool, true, false, not, List, [], ◌∷◌, length, replicate, ℤ, Some, None, Ok, Err, Option, Result, sym, refl, ap, ◌∙◌, subst, arith}
+use Rattle.std.proofs.Common.{◌≡◌, ℕ, ◌-◌, ◌<◌, true, false, not, List, [], ◌∷◌, length, replicate, ℤ, Ok, Err, sym, refl, ap, ◌∙◌, subst, arith}
 use Rattle.std.proofs.lemmas.List.{length-replicate}
-use Rattle.forms.specs.declared.fault.Fault.{Fault}
 use Rattle.forms.specs.declared.fault.Fault.TheVariants.{WrongPhase}
-use Rattle.forms.specs.Checks.{Verdict, and_then, refuse_if}
+use Rattle.forms.specs.Checks.{refuse_if}
 use Rattle.forms.specs.Closings.{closing_sizes}
 use Rattle.forms.specs.Figures.{Terms}
 use Rattle.forms.specs.Openings.{terms_of}
@@ -11,14 +10,13 @@ use Rattle.message.specs.Form.{said}
 use Rattle.forms.proofs.Firsts.{and_then_left, and_then_right, unrefused, allowed}
 use Rattle.settlement.specs.declared.phase.Phase.{Phase}
 use Rattle.settlement.specs.declared.phase.Phase.TheVariants.{Ahead, Near, After}
-use Rattle.book.specs.Closes.{Lent, close_check, lent_if, balance_today, day_closed, day_rows}
+use Rattle.book.specs.Closes.{close_check, lent_if, balance_today, day_closed, day_rows}
 use Rattle.book.specs.Cuts.{advance_check, advanced, is_after, next_phase, cut_off, state_if}
 use Rattle.book.specs.Messages.{submit_check, submitted, state_with, beyond_count}
 use Rattle.book.specs.Opens.{new_book}
-use Rattle.book.specs.Queries.{answer_if, day_check, group_check, position_check, position_answer, trade_check, trade_answer, standing_check}
-use Rattle.book.specs.Rows.{Row}
+use Rattle.book.specs.Queries.{group_check, position_check, position_answer, trade_check, trade_answer, standing_check}
 use Rattle.book.specs.States.{State, size, day_quarters}
-use Rattle.journal.specs.Books.{Own, Step, Stepped, Brings, JournalOf}
+use Rattle.journal.specs.Books.{Stepped, Brings}
 use Rattle.journal.specs.Journals.{Entry, submit, advance, close, position, trade, standing, total, Journal}
 use Rattle.journal.specs.Reckoned.{Meaning, Right, AllRight}
 use Rattle.journal.proofs.Advancing.{keeps_nearer, keeps_cut_off, day_left}

@@ -1,5 +1,5 @@
 -- An accepted message.
-use Rattle.std.proofs.Common.{◌≡◌, ℕ, ◌+◌, ◌-◌, ◌*◌, ◌/◌, ◌<◌, ◌≤◌, Bool, true, false, cond, eqb, List, ◌∷◌, length, Some, None, Ok, Err, Option, Result, sym, refl, ap, ◌∙◌, subst, inl, inr, arith}
+use Rattle.std.proofs.Common.{◌≡◌, ℕ, ◌+◌, ◌-◌, ◌*◌, ◌/◌, ◌<◌, List, ◌∷◌, length, Ok, Option, Result, sym, refl, ap, ◌∙◌, inl, inr, arith}
 use Rattle.std.proofs.lemmas.List.FromFn.{length-map-range_with_len}
 use Rattle.std.proofs.lemmas.Bool.{cases_eq, eq-eqb, ne_eqb, cond-true, cond-false}
 use Rattle.forms.specs.declared.fault.Fault.{Fault}
@@ -7,12 +7,12 @@ use Rattle.forms.specs.Calendar.{quarters}
 use Rattle.forms.specs.Slots.{Slot}
 use Rattle.message.specs.Form.{said}
 use Rattle.message.specs.Places.{stated}
-use Rattle.settlement.specs.Sheets.{Within, slots, sheet_size}
+use Rattle.settlement.specs.Sheets.{Within}
 use Rattle.book.specs.Messages.{submit_check, submitted, state_with, sheet_after, word_after, flags_after, sent_after, beyond_count}
-use Rattle.book.specs.States.{State, GroupState, size, kept, day_quarters, statements}
+use Rattle.book.specs.States.{State, size, kept, day_quarters, statements}
 use Rattle.book.proofs.Meaning.{message_stands, message_fixes_nothing, sender_named}
 use Rattle.book.proofs.Submitting.{submit_accepted}
-use Rattle.journal.specs.Journals.{Entry, submit, Journal, advanced_here, closed_here, message_in, advances, closes, cut_offs, today, says, last_message, series_of, or_earlier}
+use Rattle.journal.specs.Journals.{Entry, submit, Journal, advanced_here, closed_here, advances, closes, cut_offs, today, says, last_message}
 use Rattle.journal.specs.Reckoned.{Meaning}
 use Rattle.journal.proofs.Counting.{no_more}
 use Rattle.journal.proofs.Keeping.{Keeps, advances_in, marks_still, penalties_still, balance_still}

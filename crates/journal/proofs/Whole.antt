@@ -1,12 +1,12 @@
 -- The theorem, part by part.
-use Rattle.std.proofs.Common.{◌≡◌, ℕ, ◌+◌, ◌-◌, ◌<◌, ◌≤◌, Bool, true, List, [], ◌∷◌, ℤ, Ok, sym, refl, ap, ◌∙◌, arith}
+use Rattle.std.proofs.Common.{◌≡◌, ℕ, ◌+◌, ◌-◌, ◌≤◌, Bool, List, [], ◌∷◌, ℤ, Ok, sym, refl, ap, ◌∙◌, arith}
 use Rattle.forms.specs.Openings.{terms_of}
 use Rattle.settlement.specs.Laws.{NeverFalls}
 use Rattle.settlement.proofs.Laws.{balanced, below_both}
 use Rattle.book.specs.States.{State}
 use Rattle.journal.specs.Books.{Brings, JournalOf}
 use Rattle.journal.specs.Journals.{Journal, standing, total, cut_offs, says}
-use Rattle.journal.specs.Reckoned.{Meaning, groups, mark, stage, penalties, AllRight}
+use Rattle.journal.specs.Reckoned.{Meaning, groups, stage, penalties}
 use Rattle.journal.specs.Theorem.{Answers, Energy, MarksAlone, FartherNoCheaper, NobodyBends}
 use Rattle.journal.proofs.Opening.{never_falls}
 use Rattle.journal.proofs.Parts.{stage_same, stage_no_less, penalties_no_less}

@@ -1,8 +1,7 @@
 -- What a journal of a book is: each call works on that book, its rule and, unless it is refused, on the sheet given to open.
-use Rattle.std.specs.Prelude.{◌≡◌, ℕ, Bool, List, [], ◌∷◌, length, Some, None, Ok, Err, Option, Result}
+use Rattle.std.specs.Prelude.{◌≡◌, ℕ, List, [], ◌∷◌, length, Some, None, Ok, Err, Result}
 use Rattle.forms.specs.declared.fault.Fault.{Fault}
-use Rattle.forms.specs.Checks.{Verdict}
-use Rattle.book.specs.Closes.{Lent, closed_by}
+use Rattle.book.specs.Closes.{closed_by}
 use Rattle.book.specs.Cuts.{advanced}
 use Rattle.book.specs.Messages.{submitted}
 use Rattle.book.specs.Opens.{opened_by}

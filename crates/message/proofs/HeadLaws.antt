@@ -1,5 +1,5 @@
 -- What follows once the heads of a message are lawful and none stands twice.
-use Rattle.std.proofs.Common.{◌≡◌, ℕ, ◌+◌, ◌-◌, ◌<◌, ◌≤◌, Bool, true, false, not, ◌&&◌, eqb, leb, List, is_some, Some, None, Ok, Option, sym, refl, ap, subst, inl, inr, arith}
+use Rattle.std.proofs.Common.{◌≡◌, ℕ, ◌+◌, ◌<◌, ◌≤◌, Bool, true, false, not, ◌&&◌, eqb, leb, List, is_some, Some, None, Ok, Option, sym, refl, ap, subst, inl, inr, arith}
 use Rattle.std.proofs.lemmas.Bool.{and_parts, and_from, or_cases, not-true, not-false, eqb-true, eqb-false, eq-eqb, leb-true, cases_eq}
 use Rattle.forms.specs.Checks.{refuse_if, each_of}
 use Rattle.forms.specs.Slots.{kind_of, counter_of}

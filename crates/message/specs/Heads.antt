@@ -1,5 +1,5 @@
 -- Which heads a message may have. Groups count from 0 here, the counters of heads from 1.
-use Rattle.std.specs.Prelude.{◌≡◌, ℕ, ◌+◌, ◌<◌, Bool, not, ◌&&◌, ◌||◌, List, is_some, ◌==◌, ◌≢◌, nat_le}
+use Rattle.std.specs.Prelude.{ℕ, ◌+◌, ◌<◌, Bool, not, ◌&&◌, ◌||◌, List, is_some, ◌==◌, ◌≢◌, nat_le}
 use Rattle.forms.specs.Checks.{Verdict, and_then, refuse_if, each_of}
 use Rattle.forms.specs.declared.fault.Fault.TheVariants.{UnlawfulHead, RepeatedHead}
 use Rattle.forms.specs.Slots.{Slot, out_to, in_from, cons, prod, pump}

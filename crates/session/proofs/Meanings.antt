@@ -1,10 +1,10 @@
 -- A book's calls depend on the meaning of its rule alone.
-use Rattle.std.proofs.Common.{◌≡◌, ℕ, List, map, length, replicate, Some, None, Ok, Err, Option, Result, sym, refl, ap, ◌∙◌}
+use Rattle.std.proofs.Common.{◌≡◌, ℕ, List, length, replicate, Some, None, Ok, Err, Option, Result, sym, refl, ap, ◌∙◌}
 use Rattle.forms.specs.declared.fault.Fault.{Fault}
 use Rattle.forms.specs.Checks.{Verdict}
 use Rattle.stage.specs.declared.any_rule.AnyRule.{AnyRule}
 use Rattle.stage.specs.Asked.{meaning_of}
-use Rattle.book.specs.Calls.{Place, submits, advances, closes}
+use Rattle.book.specs.Calls.{Place, submits, closes}
 use Rattle.book.specs.Closes.{Lent}
 use Rattle.book.specs.Cuts.{sheet_if}
 use Rattle.book.specs.Opens.{opened_by, open_check, place_if, new_book}

@@ -1,5 +1,5 @@
 -- What a frame is answered, and the line of each reply: its fields with one blank between.
-use Rattle.std.specs.Prelude.{ℕ, Bool, true, false, List, [], ◌++◌, Ok, Err, codes, decimal, Option, Result}
+use Rattle.std.specs.Prelude.{ℕ, List, [], ◌++◌, Ok, Err, codes, decimal, Option, Result}
 use Rattle.std.specs.Option.{unwrap_or}
 use Rattle.forms.specs.declared.fault.Fault.{Fault}
 use Rattle.forms.specs.Faults.{notice_of, shown_of}

@@ -6,7 +6,6 @@ use Rattle.stage.specs.Asked.{meaning_of}
 use Rattle.book.specs.Calls.{Place}
 use Rattle.book.specs.Opens.{held_in}
 use Rattle.book.specs.Rows.{Row, row_of}
-use Rattle.book.specs.States.{State}
 use Rattle.session.specs.declared.session.Session.{Session}
 
 abbrev pub Meaning : Type 0

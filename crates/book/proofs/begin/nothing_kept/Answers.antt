@@ -1,4 +1,4 @@
-use Rattle.std.proofs.Common.{◌≡◌, ℕ, [], length, get_or, replicate, pos, sym, refl, ap, ◌∙◌, subst}
+use Rattle.std.proofs.Common.{◌≡◌, ℕ, length, get_or, replicate, pos, sym, ap, ◌∙◌, subst}
 use Rattle.stage.specs.MarkLists.{length_marks}
 use Rattle.book.proofs.Accounts.{get_d_zeros}
 use Rattle.book.proofs.begin.nothing_kept.Goals as goal

@@ -1,11 +1,9 @@
-use Rattle.std.proofs.Common.{◌≡◌, ℕ, ◌+◌, ◌<◌, ◌≤◌, Bool, List, map, length, get_or, take, set, nat_abs, sym, refl, ap, ◌∙◌, inl, inr, arith, w64, rules}
+use Rattle.std.proofs.Common.{◌≡◌, ℕ, ◌<◌, Bool, List, map, length, nat_abs, sym, ap, ◌∙◌, inl, inr, arith, w64, rules}
 use Rattle.std.proofs.lemmas.Int.{to_z-of_z}
 use Rattle.std.proofs.lemmas.List.{take_all, length-map, get_or_past}
 use Rattle.std.proofs.lemmas.Bool.{cases_lt}
-use Rattle.std.specs.List.{range_with_len}
 use Rattle.forms.proofs.Writes.{written_more, written_all}
-use Rattle.book.specs.Closes.{row_with, day_row, day_rows, balance_today}
-use Rattle.book.specs.Kept.{most_balance}
+use Rattle.book.specs.Closes.{row_with, day_row, day_rows}
 use Rattle.book.specs.Rows.{Row, row_of, amount_in}
 use Rattle.book.specs.States.{State, state_of, size}
 use Rattle.book.proofs.RowLists.{amounts_more}

@@ -1,12 +1,11 @@
-use Rattle.std.proofs.Common.{◌≡◌, ℕ, ◌+◌, ◌*◌, ◌<◌, ◌≤◌, false, List, map, length, get_or, take, set, ℤ, pos, nat_abs, sym, refl, ap, ◌∙◌, arith, w64, SFits, to_z, of_z, rules}
+use Rattle.std.proofs.Common.{◌≡◌, ◌+◌, ◌<◌, false, length, get_or, pos, nat_abs, sym, ap, ◌∙◌, arith, w64, to_z, of_z, rules}
 use Rattle.std.proofs.lemmas.List.{length-set, take-map, get_or-map}
 use Rattle.std.proofs.lemmas.Int.{to_z-of_z}
-use Rattle.std.specs.List.{range_with_len}
 use Rattle.forms.proofs.Writes.{written_more, written_all}
 use Rattle.settlement.specs.declared.phase.Phase.TheVariants.{Ahead}
 use Rattle.book.specs.declared.result_row.ResultRow.{ResultRow}
 use Rattle.book.specs.Closes.{day_done, closed_group, day_closed}
-use Rattle.book.specs.Kept.{cut_offs, days_in, penalties_in, balance_in, most_penalty, most_balance}
+use Rattle.book.specs.Kept.{cut_offs, days_in, penalties_in, balance_in}
 use Rattle.book.specs.Rows.{Row, row_of, amount_in, balance_in_row}
 use Rattle.book.specs.States.{State, state_of, size, account_of, own_accounts}
 use Rattle.book.proofs.Accounts.{bounded_set}

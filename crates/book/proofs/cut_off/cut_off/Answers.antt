@@ -1,18 +1,14 @@
-use Rattle.std.proofs.Common.{◌≡◌, ℕ, ◌+◌, ◌*◌, ◌<◌, ◌≤◌, Bool, List, map, length, get_or, take, set, nat_abs, sym, refl, ap, ◌∙◌, arith, rules}
+use Rattle.std.proofs.Common.{◌≡◌, ℕ, ◌<◌, Bool, List, length, nat_abs, ap, ◌∙◌, arith}
 use Rattle.std.proofs.lemmas.List.{length-set, take-map}
-use Rattle.std.specs.List.{range_with_len}
-use Rattle.forms.specs.Openings.{terms_in}
-use Rattle.forms.proofs.OpeningLaws.{count_in}
 use Rattle.forms.proofs.Writes.{written_more, written_all}
 use Rattle.stage.specs.MarkLists.{length_marks}
-use Rattle.settlement.specs.declared.phase.Phase.{Phase}
 use Rattle.settlement.specs.declared.phase.Phase.TheVariants.{After}
 use Rattle.settlement.specs.Positions.{day_excess}
 use Rattle.settlement.specs.Sheets.{on_sheet}
 use Rattle.book.specs.Cuts.{charged, excess_today, past_cut_off, cut_off}
-use Rattle.book.specs.Kept.{cut_offs, days_in, penalties_in, balance_in, most_penalty, most_balance}
+use Rattle.book.specs.Kept.{cut_offs, days_in, penalties_in, balance_in}
 use Rattle.book.specs.States.{State, state_of, size, account_of, own_accounts}
-use Rattle.book.proofs.Accounts.{bounded_set, bounded_more}
+use Rattle.book.proofs.Accounts.{bounded_set}
 use Rattle.book.proofs.cut_off.cut_off.Goals as goal
 
 pub day_excess-energy-requires : goal.day_excess-energy-requires

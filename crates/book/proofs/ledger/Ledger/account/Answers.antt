@@ -1,4 +1,4 @@
-use Rattle.std.proofs.Common.{◌<◌, ◌≤◌, length, sym, arith, rules}
+use Rattle.std.proofs.Common.{◌<◌, sym, arith, rules}
 use Rattle.forms.proofs.OpeningLaws.{count_in}
 use Rattle.book.specs.Kept.{days_in, penalties_in, balance_in}
 use Rattle.book.proofs.Accounts.{account_at, bounded_at}

@@ -1,12 +1,9 @@
-use Rattle.std.proofs.Common.{◌≡◌, ℕ, ◌-◌, Ok, Err, Result, sym, refl, ap, ◌∙◌, subst, rules}
+use Rattle.std.proofs.Common.{◌≡◌, ◌-◌, Ok, Err, sym, ap, ◌∙◌}
 use Rattle.std.proofs.lemmas.Result.{err_from_is_err_and}
-use Rattle.forms.specs.declared.fault.Fault.{Fault}
-use Rattle.forms.specs.Checks.{Verdict}
 use Rattle.message.specs.declared.Header.{Header}
 use Rattle.message.specs.Form.{header_of, said}
 use Rattle.message.proofs.Spans.{header_formed}
-use Rattle.book.specs.declared.sender.Sender.{Sender}
-use Rattle.book.specs.Messages.{Passes, Passed, sender_check, series_check, submit_check}
+use Rattle.book.specs.Messages.{sender_check, series_check}
 use Rattle.book.specs.Queries.{day_check}
 use Rattle.book.specs.States.{State, state_of, day_quarters}
 use Rattle.book.proofs.Submitting.{sender_refused, series_answers, passes_refused}

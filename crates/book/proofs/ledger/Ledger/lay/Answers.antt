@@ -1,4 +1,4 @@
-use Rattle.std.proofs.Common.{◌≡◌, ℕ, ◌+◌, ◌*◌, ◌<◌, ◌≤◌, length, get_or, Some, None, sym, ap, ◌∙◌, arith, rules}
+use Rattle.std.proofs.Common.{◌≡◌, ℕ, ◌+◌, ◌*◌, ◌<◌, get_or, Some, None, sym, ap, ◌∙◌, arith}
 use Rattle.message.specs.Places.{place_of}
 use Rattle.settlement.specs.Sheets.{slots, slot_at}
 use Rattle.book.specs.Messages.{series_laid}

@@ -1,4 +1,4 @@
-use Rattle.std.proofs.Common.{◌≡◌, is_some, sym, ap, ◌∙◌, arith, rules}
+use Rattle.std.proofs.Common.{◌≡◌, is_some, sym, ap, ◌∙◌, arith}
 use Rattle.message.specs.Places.{first_of}
 use Rattle.settlement.specs.Sheets.{slots}
 use Rattle.message.proofs.Search.{first_none, first_more, first_found}

@@ -1,4 +1,4 @@
-use Rattle.std.proofs.Common.{◌≡◌, ◌≤◌, length, sym, ap, ◌∙◌, arith, rules}
+use Rattle.std.proofs.Common.{◌≡◌, ◌≤◌, length, sym, ap, ◌∙◌, arith}
 use Rattle.settlement.specs.Sheets.{sheet_size}
 use Rattle.book.proofs.Days.{flags_enough}
 use Rattle.book.proofs.ledger.Ledger.on.Goals as goal

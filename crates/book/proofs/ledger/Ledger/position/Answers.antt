@@ -1,4 +1,4 @@
-use Rattle.std.proofs.Common.{arith, rules}
+use Rattle.std.proofs.Common.{arith}
 use Rattle.book.specs.States.{state_of, today}
 use Rattle.book.proofs.Days.{quarters_fit}
 use Rattle.book.proofs.ledger.Ledger.position.Goals as goal

@@ -1,4 +1,4 @@
-use Rattle.std.proofs.Common.{◌≡◌, ℕ, ◌+◌, ◌<◌, ◌≤◌, ℤ, ◌+ℤ◌, nat_abs, sym, refl, ap, ◌∙◌, subst, arith, w32, w64, SFits, to_z, of_z, rules}
+use Rattle.std.proofs.Common.{◌≡◌, ◌<◌, ◌+ℤ◌, nat_abs, ap, ◌∙◌, arith, w32, w64, to_z, of_z, rules}
 use Rattle.std.proofs.lemmas.Int.{to_z-of_z}
 use Rattle.forms.specs.Closings.{feed_in, long_price, short_price}
 use Rattle.forms.proofs.ClosingLaws.{feed_in_within, long_price_within, short_price_within}

@@ -1,4 +1,4 @@
-use Rattle.std.proofs.Common.{◌≡◌, ◌<◌, length, set, ◌∙◌, arith, rules}
+use Rattle.std.proofs.Common.{◌<◌, length, set, ◌∙◌, arith, rules}
 use Rattle.std.proofs.lemmas.List.{length-set}
 use Rattle.forms.proofs.OpeningLaws.{count_in}
 use Rattle.book.specs.Messages.{with_version}

@@ -1,4 +1,4 @@
-use Rattle.std.proofs.Common.{◌≡◌, ℕ, Bool, List, map, length, Err, sym, refl, ap, ◌∙◌, rules}
+use Rattle.std.proofs.Common.{ℕ, Bool, List, map, Err, sym, refl, ap, ◌∙◌}
 use Rattle.std.proofs.lemmas.List.{length-map}
 use Rattle.std.proofs.lemmas.Result.{err_from_is_err_and}
 use Rattle.book.specs.Closes.{Lent, close_check, day_closed, day_rows, balance_today}

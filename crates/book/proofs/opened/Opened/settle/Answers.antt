@@ -1,4 +1,4 @@
-use Rattle.std.proofs.Common.{◌≡◌, ℕ, Bool, List, sym, refl, ap, ◌∙◌, rules}
+use Rattle.std.proofs.Common.{ℕ, Bool, List, refl, ◌∙◌}
 use Rattle.book.specs.States.{State, state_of}
 use Rattle.book.proofs.RowLists.{closed_by_rows}
 use Rattle.book.proofs.opened.Opened.settle.Goals as goal

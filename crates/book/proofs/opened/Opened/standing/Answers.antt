@@ -1,4 +1,4 @@
-use Rattle.std.proofs.Common.{◌≡◌, ℕ, ◌-◌, ◌≤◌, Bool, List, take, sym, refl, ap, ◌∙◌, le_refl, arith}
+use Rattle.std.proofs.Common.{◌≡◌, ◌-◌, ◌≤◌, take, ap, ◌∙◌, le_refl, arith}
 use Rattle.stage.specs.Marked.{marks_of, on_day}
 use Rattle.stage.specs.MarkLists.{on_day_take}
 use Rattle.book.specs.Kept.{cut_offs}

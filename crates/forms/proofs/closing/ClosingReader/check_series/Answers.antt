@@ -1,5 +1,4 @@
 use Rattle.std.proofs.Common.{arith, rules}
-use Rattle.std.proofs.lemmas.Bool.Decides.{nat_tests}
 use Rattle.forms.proofs.Firsts.{each_none, each_more, each_exit}
 use Rattle.forms.proofs.closing.ClosingReader.check_series.Goals as goal
 

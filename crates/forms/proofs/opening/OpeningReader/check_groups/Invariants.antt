@@ -1,6 +1,6 @@
 use Rattle.std.proofs.Common.{◌≡◌, Ok}
 use Rattle.forms.specs.Checks.{each_of}
-use Rattle.forms.specs.Openings.{group_check, groups_told}
+use Rattle.forms.specs.Openings.{group_check}
 use Rattle.forms.proofs.opening.OpeningReader.check_groups.Given as goal
 
 abbrev pub invariant-loop-a : goal.invariant-loop-a

@@ -1,4 +1,4 @@
-use Rattle.std.proofs.Common.{◌≡◌, List, map, Ok, Err, vec_items, sym, refl, ap, ◌∙◌, rules}
+use Rattle.std.proofs.Common.{map, Ok, Err, ap, ◌∙◌, rules}
 use Rattle.std.specs.Option.{option_map}
 use Rattle.std.proofs.lemmas.List.{with_items_is}
 use Rattle.stage.specs.Asked.{meaning_of}

@@ -1,4 +1,4 @@
-use Rattle.std.proofs.Common.{◌≡◌, List, map, replicate, sym, refl, ap, ◌∙◌, rules}
+use Rattle.std.proofs.Common.{replicate, refl, ap, ◌∙◌, rules}
 use Rattle.std.proofs.lemmas.List.{with_items_is}
 use Rattle.settlement.specs.Sheets.{sheet_size}
 use Rattle.book.specs.Opens.{held_in}
