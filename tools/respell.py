@@ -5,7 +5,8 @@ snake case, types in camel case. Run once, at the top, after the kit's port.py:
     python3 tools/respell.py
 
 It turns a name wherever it stands as a whole word in specs/, proofs/ and the clauses of src/. Comments,
-strings and the names of goals stay. Names that would fall together are printed, and stay as they are.
+strings and the names of goals stay. A new name that stands somewhere else already is printed, to be
+looked at; two that would be confused in one crate are turned apart by the table APART.
 """
 import glob
 import re
@@ -85,7 +86,7 @@ def main():
         if new == name:
             continue
         if new in words or new in turn.values():
-            print(f"would fall together, or stands in src/: {name} -> {new}")
+            print(f"stands elsewhere too: {name} -> {new}")
         turn[name] = new
     for path in antt + sources:
         comment = "//" if path.endswith(".rt") else "--"

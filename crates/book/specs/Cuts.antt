@@ -27,11 +27,11 @@ charged m tariff k E =
     let due = penalty (row_for tariff (m marks)) E in
     record { version = k.version; marks = marks; due = due; penalties = k.penalties + due; balance = k.balance }
 
--- group a past the cut_off of the current day
+-- group a past the cut-off of the current day
 unfoldable pub past_cut_off : (List Bool → ℕ) → State → List ℕ → ℕ → GroupState
 past_cut_off m s sheet a = charged m s.terms.tariff (kept s a) (excess_today s sheet a)
 
--- the cut_off: mark, stage and penalty of each group are fixed
+-- the cut-off: mark, stage and penalty of each group are fixed
 unfoldable pub cut_off : (List Bool → ℕ) → State → List ℕ → State
 cut_off m s sheet = record {
   terms = s.terms;

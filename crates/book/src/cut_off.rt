@@ -44,7 +44,7 @@ pub(crate) fn charge<R: StageRule>(
     }
 }
 
-/// The ledger past the cut_off of its day.
+/// The ledger past the cut-off of its day.
 pub(crate) fn cut_off<R: StageRule>(rule: &R, ledger: &Ledger, sheet: &[u32]) -> Ledger
     requires near { (ledger.now.phase ≡ Near) × (ledger.now.closed < 366) }
     requires sheet { length sheet.now ≡ sheet_size (size (state_of ledger.now)) }
@@ -83,7 +83,7 @@ impl Ledger {
 }
 
 impl<R: StageRule> Opened<R> {
-    /// Moves the phase; the second advance of a day is its cut_off.
+    /// Moves the phase; the second advance of a day is its cut-off.
     pub(crate) fn advance(&mut self, sheet: &[u32]) -> Result<(), Fault>
         ensures book { (result, state_of self.new.ledger) ≡ advanced (R.meaning self.old.rule) (state_of self.old.ledger) sheet.now }
         ensures rule { self.new.rule ≡ self.old.rule }

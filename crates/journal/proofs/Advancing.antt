@@ -64,7 +64,7 @@ module _ (m : Meaning) (s : State) (w : List ℕ) (j : Journal) (given : List �
         settled = λ a l. k.settled a l ∙ balance_still s.terms e j a c;
       }
 
-  -- the cut_off
+  -- the cut-off
   module _ (p : s.phase ≡ Near) (lasts : s.closed < 366) where
     counted : advances j ≡ 2 * closes j + 1
     counted = omega (arith, k.advanced, ap advances_in p)
