@@ -264,15 +264,16 @@ mod tests {
             let message = Message::read(form).unwrap();
             let slots = message.slots(LAYOUT, 0).unwrap();
             let mut values = Values::NONE;
-            let (series, _) = message.decode(LAYOUT, &slots, &mut values).unwrap();
-            super::test_forecasts(LAYOUT, &slots, series).err()
+            // The range test stops at a value too large, which is decoded all the same.
+            let _ = message.decode(LAYOUT, &slots, &mut values);
+            super::test_forecasts(LAYOUT, &slots, &values.0[..message.series.len()]).err()
         };
         let mut form = message(&[(1, 2, 5), (5, 0, 0), (3, 0, 0), (4, 0, 0)]);
         assert_eq!(refusal(&form), None);
         set_value(&mut form, 4, 1, 1);
         assert_eq!(refusal(&form), Some(Refusal::Forecast { place: 4, quarter: 1 }));
         set_value(&mut form, 2, 96, 1);
-        set_value(&mut form, 2, 95, 1 << 16);
+        set_value(&mut form, 2, 95, 1 << 24);
         assert_eq!(refusal(&form), Some(Refusal::Forecast { place: 2, quarter: 95 }));
     }
 

@@ -3,10 +3,9 @@
 #![tactic(auto)]
 
 use journal::nobody_bends;
-use serve::account::account;
 use std::io;
 
 fn main(rt: HostRuntime) -> io::Result<()> {
     nobody_bends();
-    account(&rt)
+    serve::run(&rt)
 }

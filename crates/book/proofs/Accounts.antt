@@ -17,8 +17,8 @@ unfolding own_accounts
 length_own g xs h = length-take-le g (map account_of xs) (omega (arith, length-map xs account_of))
 
 -- zero everywhere
-pub get_d_zeros : (n k : ℕ) → get_or {A = ℕ} (replicate n 0) k 0 ≡ 0
-get_d_zeros n k =
+pub get_or_zeros : (n k : ℕ) → get_or {A = ℕ} (replicate n 0) k 0 ≡ 0
+get_or_zeros n k =
     elim (cases_lt k n) [
       | inl l ↦ get_or-replicate n k 0 0 l
       | inr l ↦ get_or_past (replicate n 0) k 0 (omega (arith, length-replicate {A = ℕ} n 0))

@@ -38,13 +38,13 @@ module _ (s : List ℕ) where
   unfolding terms_of
   length_tariff = length-map-range_with_len (row_at s (groups_told s)) 0 (rows_told s)
 
-  pub get_d_groups : (a : ℕ) (d : GroupFigures) → a < groups_told s → get_or (terms_of s).groups a d ≡ group_at s a
+  pub get_or_groups : (a : ℕ) (d : GroupFigures) → a < groups_told s → get_or (terms_of s).groups a d ≡ group_at s a
   unfolding terms_of
-  get_d_groups a d h = get_or-map-range_with_len (group_at s) 0 (groups_told s) a a d h (omega arith)
+  get_or_groups a d h = get_or-map-range_with_len (group_at s) 0 (groups_told s) a a d h (omega arith)
 
-  pub get_d_tariff : (r : ℕ) (d : RateFigures) → r < rows_told s → get_or (terms_of s).tariff r d ≡ row_at s (groups_told s) r
+  pub get_or_tariff : (r : ℕ) (d : RateFigures) → r < rows_told s → get_or (terms_of s).tariff r d ≡ row_at s (groups_told s) r
   unfolding terms_of
-  get_d_tariff r d h = get_or-map-range_with_len (row_at s (groups_told s)) 0 (rows_told s) r r d h (omega arith)
+  get_or_tariff r d h = get_or-map-range_with_len (row_at s (groups_told s)) 0 (rows_told s) r r d h (omega arith)
 
 module _ (s : List ℕ) (passed : rows_check s ≡ Ok tt) where
   group_lawful : (a : ℕ) → a < groups_told s → lawful_group (byte s (group_place a)) (group_at s a) ≡ true
@@ -112,10 +112,10 @@ lawful_terms s sizes rows =
       groups_most = omega arith;
       rows_least = omega arith;
       rows_most = omega arith;
-      powers = λ a d h. rw (get_d_groups s a d (omega arith)) (powers_at s rows a (omega arith));
-      plants = λ a d h. rw (get_d_groups s a d (omega arith)) (plants_at s rows a (omega arith));
-      fees = λ r d h. rw (get_d_tariff s r d (omega arith)) (fee_at s rows r (omega arith));
-      rates = λ r d h. rw (get_d_tariff s r d (omega arith)) (rate_at s rows r (omega arith));
-      fees_rise = λ i j d h l. rw (get_d_tariff s i d (omega arith), get_d_tariff s j d (omega arith)) (fees_rise s rows i j h (omega arith));
-      rates_rise = λ i j d h l. rw (get_d_tariff s i d (omega arith), get_d_tariff s j d (omega arith)) (rates_rise s rows i j h (omega arith));
+      powers = λ a d h. rw (get_or_groups s a d (omega arith)) (powers_at s rows a (omega arith));
+      plants = λ a d h. rw (get_or_groups s a d (omega arith)) (plants_at s rows a (omega arith));
+      fees = λ r d h. rw (get_or_tariff s r d (omega arith)) (fee_at s rows r (omega arith));
+      rates = λ r d h. rw (get_or_tariff s r d (omega arith)) (rate_at s rows r (omega arith));
+      fees_rise = λ i j d h l. rw (get_or_tariff s i d (omega arith), get_or_tariff s j d (omega arith)) (fees_rise s rows i j h (omega arith));
+      rates_rise = λ i j d h l. rw (get_or_tariff s i d (omega arith), get_or_tariff s j d (omega arith)) (rates_rise s rows i j h (omega arith));
     }

@@ -1,4 +1,5 @@
-//! The program `account`: its arguments, and the session of up to eight groups.
+//! Arguments for the program `account`: `--help`, and an error for any other. The program does not take
+//! them yet: it ignores what it is given.
 use crate::run;
 use std::{env, io};
 

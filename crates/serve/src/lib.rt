@@ -67,9 +67,11 @@ fn read_body<R: Read + Drop, W: Write + Drop>(
     Ok(Some(size))
 }
 
-/// Takes the next frame and answers the session's reply to it, or nothing where the input has ended.
+/// Takes the next frame and answers the session's reply to it, for at most so many groups, or nothing
+/// where the input has ended.
 fn take_frame<R: Read + Drop, W: Write + Drop>(
     heap: Global,
+    most: u8,
     input: &mut InputBuffer<R>,
     output: &mut BufWriter<W>,
     session: &mut Session,
@@ -87,7 +89,7 @@ fn take_frame<R: Read + Drop, W: Write + Drop>(
     };
     let length = FRAME_HEAD + size;
     let body = &input.front(length)[FRAME_HEAD..];
-    let reply = session.step(heap, head[0], body)?;
+    let reply = session.step_for(heap, most, head[0], body)?;
     input.consume(length);
     Ok(Some(reply))
 }
@@ -95,12 +97,13 @@ fn take_frame<R: Read + Drop, W: Write + Drop>(
 /// Takes frame after frame until one ends the session, or the input ends.
 fn take_frames<R: Read + Drop, W: Write + Drop>(
     heap: Global,
+    most: u8,
     input: &mut InputBuffer<R>,
     output: &mut BufWriter<W>,
     session: &mut Session,
 ) -> io::Result<()> {
     for _ in 0..u64::MAX {
-        let Some(reply) = take_frame(heap, input, output, session)? else {
+        let Some(reply) = take_frame(heap, most, input, output, session)? else {
             break;
         };
         print(output, session, reply)?;
@@ -121,8 +124,8 @@ pub fn run(rt: &HostRuntime) -> io::Result<()> {
 pub fn run_for(rt: &HostRuntime, most: u8) -> io::Result<Session> {
     let mut input = InputBuffer::new(rt.alloc(), rt.stdin())?;
     let mut output = BufWriter::new(rt.alloc(), rt.stdout())?;
-    let mut session = Session::serving(rt.alloc(), most);
-    take_frames(rt.alloc(), &mut input, &mut output, &mut session)?;
+    let mut session = Session::new(rt.alloc());
+    take_frames(rt.alloc(), most, &mut input, &mut output, &mut session)?;
     output.flush()?;
     Ok(session)
 }

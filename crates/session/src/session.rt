@@ -6,11 +6,9 @@ use stage::any_rule::AnyRule;
 /// The most groups that the program `account` serves.
 pub const MOST_GROUPS: u8 = 8;
 
-/// How many groups the program serves, the rule, the book, and what the session lends it: the sheet
-/// and the result rows.
+/// The rule, the book, and what the session lends it: the sheet and the result rows.
 #[derive(Drop)]
 pub struct Session {
-    pub(crate) most: u8,
     pub(crate) rule: Option<AnyRule>,
     pub(crate) book: Book<AnyRule>,
     pub(crate) sheet: Vec<u32>,

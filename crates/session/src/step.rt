@@ -70,21 +70,11 @@ fn blank_rows(heap: Global, groups: usize) -> Result<Vec<ResultRow>, AllocError>
 }
 
 impl Session {
-    /// A session before its first frame, for the eight groups that the program `account` serves.
+    /// A session before its first frame.
     pub fn new(heap: Global) -> Session
-        ensures view { view_of result ≡ record { rule = None; place = None; sheet = []; rows = [] } }
-        ensures most { result.most ≡ 8 }
-    {
-        Session::serving(heap, MOST_GROUPS)
-    }
-
-    /// A session before its first frame, for at most so many groups.
-    pub fn serving(heap: Global, most: u8) -> Session
-        ensures view { view_of result ≡ record { rule = None; place = None; sheet = []; rows = [] } }
-        ensures most { result.most ≡ most }
+        ensures { view_of result ≡ record { rule = None; place = None; sheet = []; rows = [] } }
     {
         Session {
-            most,
             rule: None,
             book: Book::empty(),
             sheet: Vec::new(heap),
@@ -100,14 +90,14 @@ impl Session {
     }
 
     /// Whether the frame ends the session.
-    fn stops(&self, letter: u8, body: &[u8]) -> bool
-        ensures { result ≡ stops_for self.now.most (is_some (view_of self.now).rule) (is_some (view_of self.now).place) letter body.now }
+    fn stops(&self, most: u8, letter: u8, body: &[u8]) -> bool
+        ensures { result ≡ stops_for most (is_some (view_of self.now).rule) (is_some (view_of self.now).place) letter body.now }
     {
         let ruled = self.rule.is_some();
         let opened = self.book.is_open();
         match letter {
             b'R' => ruled,
-            b'O' => !ruled || opened || too_many_for(self.most, body),
+            b'O' => !ruled || opened || too_many_for(most, body),
             b'S' | b'C' => !opened,
             b'A' => !opened || body.len() > 0,
             _ => true,
@@ -115,8 +105,7 @@ impl Session {
     }
 
     fn make_rule(&mut self, body: &[u8]) -> Reply
-        ensures answer { (told_by result, view_of self.new) ≡ rule_made (view_of self.old) (rule_asked body.now) }
-        ensures most { self.new.most ≡ self.old.most }
+        ensures { (told_by result, view_of self.new) ≡ rule_made (view_of self.old) (rule_asked body.now) }
     {
         match rule(body) {
             Ok(made) => {
@@ -127,11 +116,16 @@ impl Session {
         }
     }
 
-    fn open(&mut self, heap: Global, chosen: AnyRule, body: &[u8]) -> Result<Reply, AllocError>
-        ensures answer { MatchResult result (λ reply. (told_by reply, view_of self.new) ≡ book_opened_for self.old.most (meaning_of chosen) (view_of self.old) body.now) (λ _. view_of self.new ≡ view_of self.old) }
-        ensures most { self.new.most ≡ self.old.most }
+    fn open(
+        &mut self,
+        heap: Global,
+        most: u8,
+        chosen: AnyRule,
+        body: &[u8],
+    ) -> Result<Reply, AllocError>
+        ensures { MatchResult result (λ reply. (told_by reply, view_of self.new) ≡ book_opened_for most (meaning_of chosen) (view_of self.old) body.now) (λ _. view_of self.new ≡ view_of self.old) }
     {
-        let groups = groups_served(self.most, body);
+        let groups = groups_served(most, body);
         let mut sheet = blank_sheet(heap, groups)?;
         let rows = blank_rows(heap, groups)?;
         match self.book.open(chosen, body, &mut sheet) {
@@ -145,8 +139,7 @@ impl Session {
     }
 
     fn submit(&mut self, body: &[u8]) -> Reply
-        ensures answer { (told_by result, view_of self.new) ≡ message_sent (view_of self.old) body.now }
-        ensures most { self.new.most ≡ self.old.most }
+        ensures { (told_by result, view_of self.new) ≡ message_sent (view_of self.old) body.now }
     {
         match self.book.submit(body, &mut self.sheet) {
             Ok(answer) => Reply::Taken(answer),
@@ -155,15 +148,13 @@ impl Session {
     }
 
     fn advance(&mut self) -> Reply
-        ensures answer { (told_by result, view_of self.new) ≡ phase_moved (view_of self.old) }
-        ensures most { self.new.most ≡ self.old.most }
+        ensures { (told_by result, view_of self.new) ≡ phase_moved (view_of self.old) }
     {
         told(self.book.advance(&self.sheet))
     }
 
     fn close(&mut self, body: &[u8]) -> Reply
-        ensures answer { (told_by result, view_of self.new) ≡ day_ended (view_of self.old) body.now }
-        ensures most { self.new.most ≡ self.old.most }
+        ensures { (told_by result, view_of self.new) ≡ day_ended (view_of self.old) body.now }
     {
         match self.book.close(body, &mut self.sheet, &mut self.rows) {
             Ok(()) => Reply::Closed,
@@ -171,18 +162,30 @@ impl Session {
         }
     }
 
-    /// Takes one frame and answers it. Want of memory, met only by an opening form, changes nothing.
+    /// Takes one frame and answers it, for the eight groups that the program `account` serves. Want of
+    /// memory, met only by an opening form, changes nothing.
     pub fn step(&mut self, heap: Global, letter: u8, body: &[u8]) -> Result<Reply, AllocError>
-        ensures answer { MatchResult result (λ reply. (told_by reply, view_of self.new) ≡ stepped_for self.old.most (view_of self.old) letter body.now) (λ _. view_of self.new ≡ view_of self.old) }
-        ensures eight { self.old.most ≡ 8 → MatchResult result (λ reply. (told_by reply, view_of self.new) ≡ stepped (view_of self.old) letter body.now) (λ _. view_of self.new ≡ view_of self.old) }
-        ensures most { self.new.most ≡ self.old.most }
+        ensures { MatchResult result (λ reply. (told_by reply, view_of self.new) ≡ stepped (view_of self.old) letter body.now) (λ _. view_of self.new ≡ view_of self.old) }
     {
-        if self.stops(letter, body) {
+        self.step_for(heap, MOST_GROUPS, letter, body)
+    }
+
+    /// The same for at most so many groups.
+    pub fn step_for(
+        &mut self,
+        heap: Global,
+        most: u8,
+        letter: u8,
+        body: &[u8],
+    ) -> Result<Reply, AllocError>
+        ensures { MatchResult result (λ reply. (told_by reply, view_of self.new) ≡ stepped_for most (view_of self.old) letter body.now) (λ _. view_of self.new ≡ view_of self.old) }
+    {
+        if self.stops(most, letter, body) {
             return Ok(Reply::Stop);
         }
         match (letter, self.rule) {
             (b'R', _) => Ok(self.make_rule(body)),
-            (b'O', Some(chosen)) => self.open(heap, chosen, body),
+            (b'O', Some(chosen)) => self.open(heap, most, chosen, body),
             (b'S', _) => Ok(self.submit(body)),
             (b'A', _) => Ok(self.advance()),
             _ => Ok(self.close(body)),

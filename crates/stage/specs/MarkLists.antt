@@ -72,15 +72,15 @@ under_take (suc n) [] (y ∷ ys) h = absurd h
 under_take (suc n) (x ∷ xs) [] h = absurd h
 under_take (suc n) (x ∷ xs) (y ∷ ys) h = (h.0, under_take n xs ys h.1)
 
-under_from_get_d : (xs ys : List Bool) → length xs ≡ length ys
+under_from_get_or : (xs ys : List Bool) → length xs ≡ length ys
     → ((i : ℕ) → i < length xs → slice_index_or xs i false ≡ true → slice_index_or ys i false ≡ true) → Under xs ys
-under_from_get_d [] [] e h = tt
-under_from_get_d [] (y ∷ ys) e h = absurd (omega arith)
-under_from_get_d (x ∷ xs) [] e h = absurd (omega arith)
-under_from_get_d (x ∷ xs) (y ∷ ys) e h =
-    (h 0 (omega arith), under_from_get_d xs ys (omega arith) (λ i l. h (suc i) (omega arith)))
+under_from_get_or [] [] e h = tt
+under_from_get_or [] (y ∷ ys) e h = absurd (omega arith)
+under_from_get_or (x ∷ xs) [] e h = absurd (omega arith)
+under_from_get_or (x ∷ xs) (y ∷ ys) e h =
+    (h 0 (omega arith), under_from_get_or xs ys (omega arith) (λ i l. h (suc i) (omega arith)))
 
 -- of equally many days, each that the first marks is marked by the second
 pub under_from_days : (xs ys : List Bool) → length xs ≡ length ys
     → ((d : ℕ) → 1 ≤ d → d ≤ length xs → on_day xs d ≡ true → on_day ys d ≡ true) → Under xs ys
-under_from_days xs ys e h = under_from_get_d xs ys e (λ i l. h (suc i) (omega arith) (omega arith))
+under_from_days xs ys e h = under_from_get_or xs ys e (λ i l. h (suc i) (omega arith) (omega arith))

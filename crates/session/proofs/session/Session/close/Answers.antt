@@ -10,8 +10,8 @@ use Rattle.session.specs.Views.{by_meaning}
 use Rattle.session.proofs.Meanings.{told_close}
 use Rattle.session.proofs.session.Session.close.Goals as goal
 
-pub returns-in-Ok-clause-answer : goal.returns-in-Ok-clause-answer
-returns-in-Ok-clause-answer c =
+pub returns-in-Ok : goal.returns-in-Ok
+returns-in-Ok c =
     let me = c.args.self.now in
     let rule = option_map meaning_of me.rule in
     let place = held_in me.book.inner in
@@ -24,8 +24,8 @@ returns-in-Ok-clause-answer c =
     ∙ told_close rule place (record { sheet = c.deref_mut.result.now; rows = map row_of c.deref_mut-2.result.now }) c.args.body.now (Ok tt, after, record { sheet = c.close.new.sheet; rows = map row_of c.close.new.rows }) c.in-Ok.ensures
     ∙ (λ j. day_ended (record { rule = rule; place = by_meaning place; sheet = sheet j; rows = rows j }) c.args.body.now)
 
-pub returns-in-Err-clause-answer : goal.returns-in-Err-clause-answer
-returns-in-Err-clause-answer c =
+pub returns-in-Err : goal.returns-in-Err
+returns-in-Err c =
     let me = c.args.self.now in
     let rule = option_map meaning_of me.rule in
     let place = held_in me.book.inner in

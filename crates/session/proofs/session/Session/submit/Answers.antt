@@ -11,8 +11,8 @@ use Rattle.session.specs.Views.{by_meaning}
 use Rattle.session.proofs.Meanings.{told_message}
 use Rattle.session.proofs.session.Session.submit.Goals as goal
 
-pub returns-in-Ok-clause-answer : goal.returns-in-Ok-clause-answer
-returns-in-Ok-clause-answer c =
+pub returns-in-Ok : goal.returns-in-Ok
+returns-in-Ok c =
     let me = c.args.self.now in
     let rule = option_map meaning_of me.rule in
     let place = held_in me.book.inner in
@@ -24,8 +24,8 @@ returns-in-Ok-clause-answer c =
     ∙ told_message rule place c.deref_mut.result.now c.args.body.now rows (submitted_of (Ok c.in-Ok.answer), after, c.submit.new.sheet) c.in-Ok.ensures
     ∙ (λ j. message_sent (record { rule = rule; place = by_meaning place; sheet = read j; rows = rows }) c.args.body.now)
 
-pub returns-in-Err-clause-answer : goal.returns-in-Err-clause-answer
-returns-in-Err-clause-answer c =
+pub returns-in-Err : goal.returns-in-Err
+returns-in-Err c =
     let me = c.args.self.now in
     let rule = option_map meaning_of me.rule in
     let place = held_in me.book.inner in
