@@ -5,8 +5,7 @@ use Rattle.forms.specs.Checks.{Verdict, and_then}
 use Rattle.message.specs.declared.Header.{Header}
 use Rattle.message.specs.Form.{header_of, said}
 use Rattle.book.specs.declared.answers.Submitted.{Submitted}
-use Rattle.book.specs.declared.sender.Sender.{Sender}
-use Rattle.book.specs.Messages.{Passes, passed, sender_check, series_check, submit_check, submitted, submitted_of, beyond_count, state_with, sheet_after}
+use Rattle.book.specs.Messages.{passed, sender_check, series_check, submit_check, submitted, submitted_of, beyond_count, state_with, sheet_after}
 use Rattle.book.specs.Queries.{day_check}
 use Rattle.book.specs.States.{State, size, day_quarters}
 
@@ -22,9 +21,6 @@ module _ (s : State) (sheet form : List ℕ) (h : Header) (header : header_of (d
 
   pub series_answers : (v : Verdict) → sender ≡ Ok tt → series_check s sheet ((said form).group - 1) form ≡ v → submit_check s sheet form ≡ v
   series_answers v p e = in_order _ _ sender _ _ (ap passed header) day (rw p e)
-
-pub passes_refused : (r : Result Sender Fault) (e : Fault) (s : State) (sheet : List ℕ) (q : ℕ) (form : List ℕ) → r ≡ Err e → submit_check s sheet form ≡ Err e → Passes r s sheet q form
-passes_refused r e s sheet q form p h = rw p h
 
 -- the outcome, by what the tests find
 pub submit_refused : (s : State) (sheet form : List ℕ) (r : Result Submitted Fault) (e : Fault) → r ≡ Err e → submit_check s sheet form ≡ Err e

@@ -14,7 +14,6 @@ use Rattle.settlement.specs.declared.phase.Phase.TheVariants.{After}
 use Rattle.settlement.specs.Positions.{stated_open, excess, as_far_out}
 use Rattle.settlement.specs.Sheets.{Statements, slots, slot_at, sheet_size, words_per_slot}
 use Rattle.book.specs.declared.answers.Submitted.{Submitted}
-use Rattle.book.specs.declared.sender.Sender.{Sender}
 use Rattle.book.specs.Cuts.{is_after, state_if, sheet_if}
 use Rattle.book.specs.Queries.{answer_if, day_check, group_check}
 use Rattle.book.specs.States.{State, GroupState, size, figures, kept, today, day_quarters, statements}
@@ -84,22 +83,6 @@ submit_check s sheet form =
     and_then (passed (header_of (day_quarters s) form))
     (and_then (day_check s sheet)
     (and_then (sender_check s (said form).group (said form).day (said form).version) (series_check s sheet ((said form).group - 1) form)))
-
--- what the tests answer: the sender and the version, or the fault
-abbrev pub Sends : Result Sender Fault → State → ℕ → ℕ → ℕ → Type 0
-Sends (Ok x) s group day version = (sender_check s group day version ≡ Ok tt) × (x.own ≡ group - 1) × (x.own < size s) × (x.version ≡ version)
-Sends (Err e) s group day version = sender_check s group day version ≡ Err e
-
-pub record Passed (x : Sender) (s : State) (sheet : List ℕ) (q : ℕ) (form : List ℕ) : Type 0 where
-  pub checks : submit_check s sheet form ≡ Ok tt
-  pub sender : x.own ≡ (said form).group - 1
-  pub version : x.version ≡ (said form).version
-  pub read : Read s x.own q form
-  pub room : length sheet ≡ sheet_size (size s)
-
-abbrev pub Passes : Result Sender Fault → State → List ℕ → ℕ → List ℕ → Type 0
-Passes (Ok x) s sheet q form = Passed x s sheet q form
-Passes (Err e) s sheet q form = submit_check s sheet form ≡ Err e
 
 -- Its series stand in their slots: a place belongs to the sender, and the message has the series of that slot.
 abbrev pub owns : ℕ → ℕ → ℕ → Bool

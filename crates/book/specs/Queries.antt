@@ -20,6 +20,11 @@ answer_if (Err e) x = Err e
 abbrev pub one_of : ℕ → ℕ → Bool
 one_of n x = nat_le 1 x && nat_le x n
 
+-- what a test that finds something answers: what it found, of which P holds, or its fault
+abbrev pub Finds : {A : Type 0} → Result A Fault → Verdict → (A → Type 0) → Type 0
+Finds (Ok x) check P = (check ≡ Ok tt) × P x
+Finds (Err e) check P = check ≡ Err e
+
 -- a number that passed its check has a place from 0, below n
 abbrev pub Numbered : Result ℕ Fault → Verdict → ℕ → ℕ → Type 0
 Numbered (Ok place) check x n = (check ≡ Ok tt) × (place ≡ x - 1) × (1 ≤ x) × (place < n)

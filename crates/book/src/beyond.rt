@@ -1,15 +1,14 @@
 //! Quarter hours beyond the limit.
-ghost use Rattle.std.specs.Prelude.{◌≡◌, ◌+◌, ◌^◌, ◌<◌, ◌≤◌, length, nat_lt, unsigned_abs};
+ghost use Rattle.std.specs.Prelude.{◌≡◌, ◌+◌, ◌^◌, ◌<◌, ◌≤◌, nat_lt, unsigned_abs};
 ghost use Rattle.std.specs.Option.{option_map};
 ghost use Rattle.forms.specs.Figures.{figures_of};
 ghost use Rattle.message.specs.Places.{first_of};
 ghost use Rattle.settlement.specs.Positions.{open_position, excess as excess_over};
-ghost use Rattle.settlement.specs.Sheets.{sheet_size};
 ghost use Rattle.book.specs.Messages.{count_where, beyond_now};
 ghost use Rattle.book.specs.States.{state_of, size, day_quarters};
 
 use crate::answers::Submitted;
-use crate::ledger::Ledger;
+use crate::open_day::OpenDay;
 use forms::group::Group;
 use settlement::phase::Phase;
 use settlement::positions::{excess, open_position};
@@ -22,22 +21,22 @@ fn is_beyond(figures: &Group, phase: Phase, check: i64) -> bool
     excess(figures, phase, open_position(figures, check)) > 0
 }
 
-impl Ledger {
+impl OpenDay<'_, '_> {
     /// How many quarter hours of the group have a stated open position beyond the phase's limit, and
     /// the first of them.
-    pub(crate) fn beyond(&self, own: usize, sheet: &[u32]) -> Submitted
-        requires { (own < size (state_of self.now)) × (length sheet.now ≡ sheet_size (size (state_of self.now))) }
-        ensures count { result.beyond ≡ count_where (beyond_now (state_of self.now) sheet.now own) (day_quarters (state_of self.now)) }
-        ensures first { result.first ≡ option_map (λ t. t + 1) (first_of (beyond_now (state_of self.now) sheet.now own) (day_quarters (state_of self.now))) }
+    pub(crate) fn beyond(&self, own: usize) -> Submitted
+        requires { own < size (state_of self.now.ledger.now) }
+        ensures count { result.beyond ≡ count_where (beyond_now (state_of self.now.ledger.now) self.now.sheet.now own) (day_quarters (state_of self.now.ledger.now)) }
+        ensures first { result.first ≡ option_map (λ t. t + 1) (first_of (beyond_now (state_of self.now.ledger.now) self.now.sheet.now own) (day_quarters (state_of self.now.ledger.now))) }
     {
-        let figures = self.figures(own);
-        let day = self.on(sheet);
+        let figures = self.ledger.figures(own);
+        let day = self.on_sheet();
         let trades = day.stated_trades(own);
         let mut beyond: u16 = 0;
         let mut first = None;
-        for t in 0..u16::from(self.quarters()) {
+        for t in 0..u16::from(self.ledger.quarters()) {
             let check = day.check_value(&trades, own, t as usize);
-            if is_beyond(&figures, self.phase, check) {
+            if is_beyond(&figures, self.ledger.phase, check) {
                 beyond += 1;
                 first = first.or(Some(t + 1));
             }

@@ -58,9 +58,7 @@ impl<R: StageRule> Book<R> {
     pub fn submit(&mut self, form: &[u8], sheet: &mut [u32]) -> Result<Submitted, Fault>
         ensures { (submitted_of result, held_in self.new.inner, sheet.new) ≡ submits (held_in self.old.inner) sheet.old form.now }
     {
-        let Some(open) = &mut self.inner else {
-            return Err(Fault::WrongPhase);
-        };
+        let open = self.inner.as_mut().ok_or(Fault::WrongPhase)?;
         open.submit(form, sheet)
     }
 
@@ -68,9 +66,7 @@ impl<R: StageRule> Book<R> {
     pub fn advance(&mut self, sheet: &[u32]) -> Result<(), Fault>
         ensures { (result, held_in self.new.inner) ≡ advances R.meaning (held_in self.old.inner) sheet.now }
     {
-        let Some(open) = &mut self.inner else {
-            return Err(Fault::WrongPhase);
-        };
+        let open = self.inner.as_mut().ok_or(Fault::WrongPhase)?;
         open.advance(sheet)
     }
 
@@ -83,9 +79,7 @@ impl<R: StageRule> Book<R> {
     ) -> Result<(), Fault>
         ensures { (result, held_in self.new.inner, record { sheet = sheet.new; rows = map row_of rows.new }) ≡ closes R.meaning (held_in self.old.inner) (record { sheet = sheet.old; rows = map row_of rows.old }) form.now }
     {
-        let Some(open) = &mut self.inner else {
-            return Err(Fault::WrongPhase);
-        };
+        let open = self.inner.as_mut().ok_or(Fault::WrongPhase)?;
         open.close(form, sheet, rows)
     }
 
@@ -99,9 +93,7 @@ impl<R: StageRule> Book<R> {
     ) -> Result<(i64, i64, i64), Fault>
         ensures { result ≡ asks_position (held_in self.now.inner) sheet.now group quarter }
     {
-        let Some(open) = &self.inner else {
-            return Err(Fault::WrongPhase);
-        };
+        let open = self.inner.as_ref().ok_or(Fault::WrongPhase)?;
         open.ledger.position(sheet, group, quarter)
     }
 
@@ -109,9 +101,7 @@ impl<R: StageRule> Book<R> {
     pub fn trade(&self, sheet: &[u32], from: u16, to: u16, quarter: u16) -> Result<u32, Fault>
         ensures { result ≡ asks_trade (held_in self.now.inner) sheet.now from to quarter }
     {
-        let Some(open) = &self.inner else {
-            return Err(Fault::WrongPhase);
-        };
+        let open = self.inner.as_ref().ok_or(Fault::WrongPhase)?;
         open.ledger.trade(sheet, from, to, quarter)
     }
 
@@ -119,9 +109,7 @@ impl<R: StageRule> Book<R> {
     pub fn standing(&self, group: u16, day: u16) -> Result<Standing, Fault>
         ensures { standing_of result ≡ asks_standing R.meaning (held_in self.now.inner) group day }
     {
-        let Some(open) = &self.inner else {
-            return Err(Fault::WrongPhase);
-        };
+        let open = self.inner.as_ref().ok_or(Fault::WrongPhase)?;
         open.standing(group, day)
     }
 
@@ -129,9 +117,7 @@ impl<R: StageRule> Book<R> {
     pub fn total(&self, group: u16) -> Result<Total, Fault>
         ensures { total_of result ≡ asks_total (held_in self.now.inner) group }
     {
-        let Some(open) = &self.inner else {
-            return Err(Fault::WrongPhase);
-        };
+        let open = self.inner.as_ref().ok_or(Fault::WrongPhase)?;
         open.ledger.total(group)
     }
 

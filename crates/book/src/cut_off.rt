@@ -3,13 +3,13 @@ ghost use Rattle.std.specs.Prelude.{◌≡◌, ◌+◌, ◌*◌, ◌^◌, ◌<�
 ghost use Rattle.settlement.specs.declared.phase.Phase.TheVariants.{Ahead, Near};
 ghost use Rattle.forms.specs.Openings.{terms_in};
 ghost use Rattle.stage.specs.Marked.{marks_of};
-ghost use Rattle.settlement.specs.Sheets.{sheet_size};
 ghost use Rattle.book.specs.Cuts.{charged, cut_off, in_phase, advanced};
 ghost use Rattle.book.specs.Kept.{most_penalty, days_in, penalties_in};
 ghost use Rattle.book.specs.States.{state_of, size, account_of};
 
 use crate::group_account::GroupAccount;
 use crate::ledger::Ledger;
+use crate::open_day::OpenDay;
 use crate::opened::Opened;
 use forms::fault::Fault;
 use forms::terms::Opening;
@@ -36,33 +36,35 @@ pub(crate) fn charge<R: StageRule>(
     let stage = rule.stage(&marks);
     let due = penalty(row_for(opening.tariff(), stage), energy);
     GroupAccount {
-        version: account.version,
         marks,
         due,
         penalties: account.penalties + due,
-        balance: account.balance,
+        ..*account
     }
 }
 
-/// The ledger past the cut-off of its day.
-pub(crate) fn cut_off<R: StageRule>(rule: &R, ledger: &Ledger, sheet: &[u32]) -> Ledger
-    requires near { (ledger.now.phase ≡ Near) × (ledger.now.closed < 366) }
-    requires sheet { length sheet.now ≡ sheet_size (size (state_of ledger.now)) }
-    ensures { state_of result ≡ cut_off (R.meaning rule.now) (state_of ledger.now) sheet.now }
-{
-    let day = ledger.on(sheet);
-    let quarters = ledger.quarters() as usize;
-    let mut accounts = ledger.accounts;
-    for a in 0..ledger.groups() {
-        let energy = day.day_excess(&ledger.figures(a), a, quarters);
-        accounts[a] = charge(rule, &ledger.opening, &ledger.account(a), energy);
-    }
-    Ledger {
-        opening: ledger.opening,
-        closed: ledger.closed,
-        phase: Phase::After,
-        sent: ledger.sent,
-        accounts,
+impl OpenDay<'_, '_> {
+    /// The ledger past the cut-off of the day.
+    fn cut_off<R: StageRule>(&self, rule: &R) -> Ledger
+        requires { (self.now.ledger.now.phase ≡ Near) × (self.now.ledger.now.closed < 366) }
+        ensures { state_of result ≡ cut_off (R.meaning rule.now) (state_of self.now.ledger.now) self.now.sheet.now }
+    {
+        let ledger = self.ledger;
+        let day = self.on_sheet();
+        let quarters = ledger.quarters() as usize;
+        let mut accounts = ledger.accounts;
+        for a in 0..ledger.groups() {
+            let energy = day.day_excess(&ledger.figures(a), a, quarters);
+            accounts[a] = charge(rule, &ledger.opening, &ledger.account(a), energy);
+        }
+        // a struct with ghost fields takes no `..`
+        Ledger {
+            opening: ledger.opening,
+            closed: ledger.closed,
+            phase: Phase::After,
+            sent: ledger.sent,
+            accounts,
+        }
     }
 }
 
@@ -72,6 +74,7 @@ impl Ledger {
         requires { self.now.phase ≡ Ahead }
         ensures { state_of result ≡ in_phase (state_of self.now) Near }
     {
+        // a struct with ghost fields takes no `..`
         Ledger {
             opening: self.opening,
             closed: self.closed,
@@ -88,13 +91,10 @@ impl<R: StageRule> Opened<R> {
         ensures book { (result, state_of self.new.ledger) ≡ advanced (R.meaning self.old.rule) (state_of self.old.ledger) sheet.now }
         ensures rule { self.new.rule ≡ self.old.rule }
     {
-        if let Phase::After = self.ledger.phase {
-            return Err(Fault::WrongPhase);
-        }
-        self.ledger.check_day(sheet)?;
         self.ledger = match self.ledger.phase {
-            Phase::Ahead => self.ledger.nearer(),
-            _ => cut_off(&self.rule, &self.ledger, sheet),
+            Phase::Ahead => self.ledger.open_day(sheet)?.ledger.nearer(),
+            Phase::Near => self.ledger.open_day(sheet)?.cut_off(&self.rule),
+            Phase::After => return Err(Fault::WrongPhase),
         };
         Ok(())
     }

@@ -1,77 +1,24 @@
 //! After the cut-off a trading group may not move farther out beyond its limit.
 ghost use Rattle.std.specs.Prelude.{◌≡◌, ℕ, ◌+◌, ◌^◌, ◌<◌, ◌≤◌, not, ◌&&◌, length, pos, ◌-ℤ◌, nat_lt, slice_index, unsigned_abs};
-ghost use Rattle.forms.specs.Bounds.{most_groups};
 ghost use Rattle.forms.specs.Figures.{figures_of};
 ghost use Rattle.forms.specs.Slots.{slot_of, cons};
-ghost use Rattle.message.specs.Form.{Formed};
 ghost use Rattle.message.specs.Places.{stated};
 ghost use Rattle.settlement.specs.declared.phase.Phase.TheVariants.{After};
 ghost use Rattle.settlement.specs.Days.{day_net};
 ghost use Rattle.settlement.specs.Positions.{stated_with, open_position, excess, as_far_out};
-ghost use Rattle.settlement.specs.Sheets.{sheet_size, words_per_slot};
-ghost use Rattle.book.specs.Messages.{Read, by_message, each_growth, growth_check};
+ghost use Rattle.settlement.specs.Sheets.{words_per_slot};
+ghost use Rattle.book.specs.Messages.{by_message, each_growth, growth_check};
 ghost use Rattle.book.specs.States.{state_of, size, day_quarters};
 
-use crate::ledger::Ledger;
+use crate::sending::Sending;
 use forms::bytes::be32_at;
 use forms::fault::Fault;
 use forms::group::Group;
 use forms::slot::Slot;
-use message::MessageReader;
 use settlement::day::DayTrades;
 use settlement::phase::Phase;
 use settlement::positions::{as_far_out, excess, open_position};
 use settlement::sheet::WORDS_PER_SLOT;
-
-/// Adds what a message states for a slot to a day's sums; a slot that it does not have adds nothing.
-fn add_series(reader: &MessageReader<'_>, slot: Slot, quarters: u8, sums: &mut [u64])
-    requires formed { (Formed reader.now.quarters reader.now.bytes.now) × ((quarters ≡ reader.now.quarters) × (quarters ≤ words_per_slot)) }
-    requires room { (length sums.old ≡ words_per_slot) × (((t : ℕ) → slice_index sums.old t ≤ 2 ^ 40)) }
-    ensures value { (t : ℕ) → t < quarters → slice_index sums.new t ≡ slice_index sums.old t + stated reader.now.quarters reader.now.bytes.now (slot_of slot) t }
-    ensures bound { (t : ℕ) → slice_index sums.new t ≤ slice_index sums.old t + 2 ^ 32 }
-{
-    let Some(i) = reader.find(slot) else {
-        return;
-    };
-    let values = reader.values(i);
-    for t in 0..quarters as usize {
-        sums[t] += u64::from(be32_at(values, 4 * t));
-    }
-}
-
-/// The trades that a message of group `own` states.
-fn trades_by_message(
-    reader: &MessageReader<'_>,
-    groups: usize,
-    own: usize,
-    quarters: u8,
-) -> DayTrades
-    requires formed { (Formed reader.now.quarters reader.now.bytes.now) × ((quarters ≡ reader.now.quarters) × (quarters ≤ words_per_slot)) }
-    requires groups { groups ≤ most_groups }
-    ensures { (t : ℕ) → t < quarters → day_net result.taken result.given t ≡ stated_with (by_message own reader.now.quarters reader.now.bytes.now) t own groups }
-{
-    let mut taken = [0; WORDS_PER_SLOT];
-    let mut given = [0; WORDS_PER_SLOT];
-    for b in 0..groups {
-        if b == own {
-            continue;
-        }
-        add_series(reader, Slot::InFrom(b as u8), quarters, &mut taken);
-        add_series(reader, Slot::OutTo(b as u8), quarters, &mut given);
-    }
-    DayTrades { taken, given }
-}
-
-/// The consumption that a message states.
-fn consumption_by_message(reader: &MessageReader<'_>, quarters: u8) -> [u64; WORDS_PER_SLOT]
-    requires { (Formed reader.now.quarters reader.now.bytes.now) × ((quarters ≡ reader.now.quarters) × (quarters ≤ words_per_slot)) }
-    ensures value { (t : ℕ) → t < quarters → slice_index result t ≡ stated reader.now.quarters reader.now.bytes.now cons t }
-    ensures bound { (t : ℕ) → slice_index result t ≤ 2 ^ 32 }
-{
-    let mut sums = [0; WORDS_PER_SLOT];
-    add_series(reader, Slot::Cons, quarters, &mut sums);
-    sums
-}
 
 /// A check value: what the day's trades come to in a quarter hour, less consumption.
 fn check_less(trades: &DayTrades, consumption: &[u64], t: usize) -> i64
@@ -99,27 +46,61 @@ fn moves_out(figures: &Group, next: i64, last: i64) -> bool
     farther_out(figures, next, last)
 }
 
-impl Ledger {
-    /// Refuses the first quarter hour at which the message moves the group farther out.
-    fn check_each_growth(
-        &self,
-        reader: &MessageReader<'_>,
-        own: usize,
-        sheet: &[u32],
-    ) -> Result<(), Fault>
-        requires read { Read (state_of self.now) own reader.now.quarters reader.now.bytes.now }
-        requires sheet { length sheet.now ≡ sheet_size (size (state_of self.now)) }
-        ensures { result ≡ each_growth (state_of self.now) sheet.now own reader.now.bytes.now (day_quarters (state_of self.now)) }
+impl Sending<'_, '_, '_> {
+    /// Adds what the message states for a slot to a day's sums; a slot that it does not have adds
+    /// nothing.
+    fn add_series(&self, slot: Slot, sums: &mut [u64])
+        requires { (length sums.old ≡ words_per_slot) × (((t : ℕ) → slice_index sums.old t ≤ 2 ^ 40)) }
+        ensures value { (t : ℕ) → t < day_quarters (state_of self.now.day.ledger.now) → slice_index sums.new t ≡ slice_index sums.old t + stated self.now.message.quarters self.now.message.bytes.now (slot_of slot) t }
+        ensures bound { (t : ℕ) → slice_index sums.new t ≤ slice_index sums.old t + 2 ^ 32 }
     {
-        let quarters = self.quarters();
-        let figures = self.figures(own);
-        let day = self.on(sheet);
-        let before = day.stated_trades(own);
-        let trades = trades_by_message(reader, self.groups(), own, quarters);
-        let consumption = consumption_by_message(reader, quarters);
-        for t in 0..quarters as usize {
+        let Some(i) = self.message.find(slot) else {
+            return;
+        };
+        let values = self.message.values(i);
+        for t in 0..self.day.ledger.quarters() as usize {
+            sums[t] += u64::from(be32_at(values, 4 * t));
+        }
+    }
+
+    /// The trades that the message states.
+    fn trades(&self) -> DayTrades
+        ensures { (t : ℕ) → t < day_quarters (state_of self.now.day.ledger.now) → day_net result.taken result.given t ≡ stated_with (by_message self.now.own self.now.message.quarters self.now.message.bytes.now) t self.now.own (size (state_of self.now.day.ledger.now)) }
+    {
+        let mut taken = [0; WORDS_PER_SLOT];
+        let mut given = [0; WORDS_PER_SLOT];
+        for b in 0..self.day.ledger.groups() {
+            if b == self.own {
+                continue;
+            }
+            self.add_series(Slot::InFrom(b as u8), &mut taken);
+            self.add_series(Slot::OutTo(b as u8), &mut given);
+        }
+        DayTrades { taken, given }
+    }
+
+    /// The consumption that the message states.
+    fn consumption(&self) -> [u64; WORDS_PER_SLOT]
+        ensures value { (t : ℕ) → t < day_quarters (state_of self.now.day.ledger.now) → slice_index result t ≡ stated self.now.message.quarters self.now.message.bytes.now cons t }
+        ensures bound { (t : ℕ) → slice_index result t ≤ 2 ^ 32 }
+    {
+        let mut sums = [0; WORDS_PER_SLOT];
+        self.add_series(Slot::Cons, &mut sums);
+        sums
+    }
+
+    /// Refuses the first quarter hour at which the message moves the group farther out.
+    fn check_each_growth(&self) -> Result<(), Fault>
+        ensures { result ≡ each_growth (state_of self.now.day.ledger.now) self.now.day.sheet.now self.now.own self.now.message.bytes.now (day_quarters (state_of self.now.day.ledger.now)) }
+    {
+        let figures = self.day.ledger.figures(self.own);
+        let day = self.day.on_sheet();
+        let before = day.stated_trades(self.own);
+        let trades = self.trades();
+        let consumption = self.consumption();
+        for t in 0..self.day.ledger.quarters() as usize {
             let next = check_less(&trades, &consumption, t);
-            let last = day.check_value(&before, own, t);
+            let last = day.check_value(&before, self.own, t);
             if moves_out(&figures, next, last) {
                 return Err(Fault::GrowingPosition {
                     quarter: t as u16 + 1,
@@ -130,22 +111,15 @@ impl Ledger {
     }
 
     /// Refuses, after the cut-off, a message that moves a trading group farther out.
-    pub(crate) fn check_growth(
-        &self,
-        reader: &MessageReader<'_>,
-        own: usize,
-        sheet: &[u32],
-    ) -> Result<(), Fault>
-        requires read { Read (state_of self.now) own reader.now.quarters reader.now.bytes.now }
-        requires sheet { length sheet.now ≡ sheet_size (size (state_of self.now)) }
-        ensures { result ≡ growth_check (state_of self.now) sheet.now own reader.now.bytes.now }
+    pub(crate) fn check_growth(&self) -> Result<(), Fault>
+        ensures { result ≡ growth_check (state_of self.now.day.ledger.now) self.now.day.sheet.now self.now.own self.now.message.bytes.now }
     {
-        let Phase::After = self.phase else {
+        let Phase::After = self.day.ledger.phase else {
             return Ok(());
         };
-        if self.figures(own).metered {
+        if self.day.ledger.figures(self.own).metered {
             return Ok(());
         }
-        self.check_each_growth(reader, own, sheet)
+        self.check_each_growth()
     }
 }

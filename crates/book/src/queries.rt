@@ -45,10 +45,10 @@ impl Ledger {
     ) -> Result<(i64, i64, i64), Fault>
         ensures { result ≡ position_answer (state_of self.now) sheet.now group quarter }
     {
-        self.check_day(sheet)?;
+        let day = self.open_day(sheet)?;
         let a = self.check_group(group)?;
         let t = self.check_quarter(quarter)?;
-        Ok(self.on(sheet).position(&self.figures(a), a, t))
+        Ok(day.on_sheet().position(&self.figures(a), a, t))
     }
 
     /// The confirmed trade from one group to another.
@@ -61,14 +61,14 @@ impl Ledger {
     ) -> Result<u32, Fault>
         ensures { result ≡ trade_answer (state_of self.now) sheet.now from to quarter }
     {
-        self.check_day(sheet)?;
+        let day = self.open_day(sheet)?;
         let a = self.check_group(from)?;
         let b = self.check_group(to)?;
         if a == b {
             return Err(Fault::WrongGroup);
         }
         let t = self.check_quarter(quarter)?;
-        Ok(self.on(sheet).trade(a, b, t))
+        Ok(day.on_sheet().trade(a, b, t))
     }
 
     /// A group's penalties and balance so far.

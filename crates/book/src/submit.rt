@@ -1,23 +1,38 @@
 //! A message.
-ghost use Rattle.std.specs.Prelude.{◌≡◌, length};
+ghost use Rattle.std.specs.Prelude.{◌≡◌, ◌-◌, ◌<◌};
 ghost use Rattle.message.specs.Form.{said};
-ghost use Rattle.settlement.specs.Sheets.{sheet_size};
-ghost use Rattle.book.specs.Messages.{Read, Sends, Passes, series_check, submitted, submitted_of};
-ghost use Rattle.book.specs.States.{state_of, size, day_quarters};
+ghost use Rattle.book.specs.Messages.{sender_check, series_check, submit_check, submitted, submitted_of};
+ghost use Rattle.book.specs.Queries.{Finds};
+ghost use Rattle.book.specs.States.{state_of, size};
 
 use crate::answers::Submitted;
 use crate::ledger::Ledger;
+use crate::open_day::OpenDay;
 use crate::opened::Opened;
-use crate::sender::Sender;
+use crate::sending::Sending;
 use forms::fault::Fault;
 use message::{Header, MessageReader};
 use stage::rule::StageRule;
 
+impl Sending<'_, '_, '_> {
+    /// The tests of the message's series.
+    fn check_series(&self) -> Result<(), Fault>
+        ensures { result ≡ series_check (state_of self.now.day.ledger.now) self.now.day.sheet.now self.now.own self.now.message.bytes.now }
+    {
+        let ledger = self.day.ledger;
+        let message = self.message;
+        message.check_heads(ledger.groups() as u8, self.own as u8)?;
+        self.check_complete()?;
+        message.check_values(ledger.figures(self.own).metered)?;
+        self.check_growth()
+    }
+}
+
 impl Ledger {
     /// Refuses a message of no group of the book, of another day, or of a version that is not the
-    /// next; answers the sender.
-    fn check_sender(&self, header: Header) -> Result<Sender, Fault>
-        ensures { Sends result (state_of self.now) header.group header.day header.version }
+    /// next; answers the place of the sender.
+    fn check_sender(&self, header: Header) -> Result<usize, Fault>
+        ensures { Finds result (sender_check (state_of self.now) header.group header.day header.version) (λ own. (own ≡ header.group - 1) × (own < size (state_of self.now))) }
     {
         let own = self.check_group(header.group)?;
         if header.day != self.day() {
@@ -26,51 +41,45 @@ impl Ledger {
         if u32::from(header.version) != u32::from(self.account(own).version) + 1 {
             return Err(Fault::WrongVersion);
         }
-        Ok(Sender {
+        Ok(own)
+    }
+
+    /// The message in these bytes, once it has passed all tests.
+    fn check_message<'l, 'w, 'm>(
+        &'l self,
+        form: &'m [u8],
+        sheet: &'w [u32],
+    ) -> Result<Sending<'l, 'w, 'm>, Fault>
+        ensures { Finds result (submit_check (state_of self.now) sheet.now form.now) (λ x. (x.day.ledger.now ≡ self.now) × (x.day.sheet.now ≡ sheet.now) × (x.message.bytes.now ≡ form.now) × (x.own ≡ (said form.now).group - 1) × (x.version ≡ (said form.now).version)) }
+    {
+        let message = MessageReader::new(form, self.quarters());
+        let header = message.header()?;
+        let day = self.open_day(sheet)?;
+        let own = self.check_sender(header)?;
+        let sending = Sending {
+            day,
+            message,
             own,
             version: header.version,
-        })
-    }
-
-    /// The tests of the message's series, given its sender.
-    fn check_series(
-        &self,
-        reader: &MessageReader<'_>,
-        own: usize,
-        sheet: &[u32],
-    ) -> Result<(), Fault>
-        requires read { Read (state_of self.now) own reader.now.quarters reader.now.bytes.now }
-        requires sheet { length sheet.now ≡ sheet_size (size (state_of self.now)) }
-        ensures { result ≡ series_check (state_of self.now) sheet.now own reader.now.bytes.now }
-    {
-        reader.check_heads(self.groups() as u8, own as u8)?;
-        self.check_complete(reader, own)?;
-        reader.check_values(self.figures(own).metered)?;
-        self.check_growth(reader, own, sheet)
-    }
-
-    /// All tests of a message, in order; answers its sender.
-    fn check_message(&self, reader: &MessageReader<'_>, sheet: &[u32]) -> Result<Sender, Fault>
-        requires { reader.now.quarters ≡ day_quarters (state_of self.now) }
-        ensures { Passes result (state_of self.now) sheet.now reader.now.quarters reader.now.bytes.now }
-    {
-        let header = reader.header()?;
-        self.check_day(sheet)?;
-        let sender = self.check_sender(header)?;
-        self.check_series(reader, sender.own, sheet)?;
-        Ok(sender)
+        };
+        sending.check_series()?;
+        Ok(sending)
     }
 
     /// Takes a message, or refuses it and changes nothing.
     pub(crate) fn submit(&mut self, form: &[u8], sheet: &mut [u32]) -> Result<Submitted, Fault>
         ensures { (submitted_of result, state_of self.new, sheet.new) ≡ submitted (state_of self.old) sheet.old form.now }
     {
-        let reader = MessageReader::new(form, self.quarters());
-        let Sender { own, version } = self.check_message(&reader, sheet)?;
-        self.lay(&reader, own, sheet);
-        let after = self.with_message(&reader, own, version);
+        let sending = self.check_message(form, sheet)?;
+        let Sending { message, own, .. } = sending;
+        let after = sending.ledger_after();
+        self.lay(&message, own, sheet);
         *self = after;
-        Ok(after.beyond(own, sheet))
+        let day = OpenDay {
+            ledger: &after,
+            sheet,
+        };
+        Ok(day.beyond(own))
     }
 }
 

@@ -1,18 +1,19 @@
 //! The current day of a ledger.
-ghost use Rattle.std.specs.Prelude.{◌≡◌, ◌+◌, ◌*◌, ◌<◌, ◌≤◌, length, OnOk};
+ghost use Rattle.std.specs.Prelude.{◌≡◌, ◌+◌, ◌*◌, ◌<◌, ◌≤◌};
 ghost use Rattle.forms.specs.Figures.{figures_of};
-ghost use Rattle.settlement.specs.Sheets.{SheetOf, slots, sheet_size, words_per_slot};
+ghost use Rattle.settlement.specs.Sheets.{slots, sheet_size, words_per_slot};
 ghost use Rattle.book.specs.Kept.{cut_offs, days_in, penalties_in, balance_in, most_penalty, most_balance};
-ghost use Rattle.book.specs.Queries.{day_check};
+ghost use Rattle.book.specs.Queries.{Finds, day_check};
 ghost use Rattle.book.specs.States.{state_of, size, figures, kept, account_of, today, day_quarters, year_over};
 
 use crate::group_account::GroupAccount;
 use crate::ledger::Ledger;
+use crate::open_day::OpenDay;
 use crate::whole_sheet::sheet_fits;
 use forms::calendar::{DAYS, quarters_of};
 use forms::fault::Fault;
 use forms::group::Group;
-use settlement::sheet::{Sheet, slots_per_group};
+use settlement::sheet::slots_per_group;
 
 impl Ledger {
     /// How many groups the book has.
@@ -47,17 +48,6 @@ impl Ledger {
         self.closed >= DAYS
     }
 
-    /// The current day's sheet, read by what was sent.
-    pub(crate) fn on<'f, 'w>(&'f self, sheet: &'w [u32]) -> Sheet<'f, 'w>
-        requires { length sheet.now ≡ sheet_size (size (state_of self.now)) }
-        ensures groups { result.groups ≡ size (state_of self.now) }
-        ensures sent { result.sent.now ≡ self.now.sent }
-        ensures words { result.words.now ≡ sheet.now }
-        ensures whole { SheetOf result.groups result.sent.now result.words.now }
-    {
-        Sheet::new(self.groups(), &self.sent, sheet)
-    }
-
     /// The place in the sheet of slot `number` of group `own`.
     pub(crate) fn place(&self, own: usize, number: usize) -> usize
         requires { (own < size (state_of self.now)) × (number < slots (size (state_of self.now))) }
@@ -87,10 +77,10 @@ impl Ledger {
         self.accounts[a]
     }
 
-    /// Refuses when the year is over, or when the sheet does not fit.
-    pub(crate) fn check_day(&self, sheet: &[u32]) -> Result<(), Fault>
-        ensures value { result ≡ day_check (state_of self.now) sheet.now }
-        ensures room { OnOk result (length sheet.now ≡ sheet_size (size (state_of self.now))) }
+    /// The day with the sheet that is lent. Refuses when the year is over, or when the sheet does not
+    /// fit.
+    pub(crate) fn open_day<'l, 'w>(&'l self, sheet: &'w [u32]) -> Result<OpenDay<'l, 'w>, Fault>
+        ensures { Finds result (day_check (state_of self.now) sheet.now) (λ d. (d.ledger.now ≡ self.now) × (d.sheet.now ≡ sheet.now)) }
     {
         if self.year_over() {
             return Err(Fault::WrongPhase);
@@ -98,6 +88,9 @@ impl Ledger {
         if !sheet_fits(self.groups(), sheet) {
             return Err(Fault::WrongBuffer);
         }
-        Ok(())
+        Ok(OpenDay {
+            ledger: self,
+            sheet,
+        })
     }
 }

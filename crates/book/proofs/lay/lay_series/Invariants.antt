@@ -3,4 +3,4 @@ use Rattle.book.specs.Messages.{series_laid}
 use Rattle.book.proofs.lay.lay_series.Given as goal
 
 abbrev pub invariant-loop-t : goal.invariant-loop-t
-invariant-loop-t l = (k : ℕ) → get_or l.sheet k 0 ≡ series_laid l.reader.quarters l.reader.bytes.now l.i l.at l.t l.initial.sheet k
+invariant-loop-t l = (k : ℕ) → get_or l.sheet k 0 ≡ series_laid l.message.quarters l.message.bytes.now l.i l.at l.t l.initial.sheet k

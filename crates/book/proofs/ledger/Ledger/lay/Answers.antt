@@ -25,7 +25,7 @@ loop-number-preserved c =
     let g = size s in
     let q = day_quarters s in
     let own = c.args.own in
-    let form = c.args.reader.now.bytes.now in
+    let form = c.args.message.now.bytes.now in
     let sheet = c.args.sheet.now in
     let n = c.loop-number.number in
     let xs = c.loop-number.sheet in
@@ -54,7 +54,7 @@ returns c =
     let g = size s in
     let q = day_quarters s in
     let own = c.args.own in
-    let form = c.args.reader.now.bytes.now in
+    let form = c.args.message.now.bytes.now in
     let sheet = c.args.sheet.now in
     let all : c.loop-number.number ≡ slots g =
     omega (arith, c.slots_per_group-number-end.ensures, c.groups.ensures.value, c.loop-number-test.false, c.loop-number.auto.number-end) in

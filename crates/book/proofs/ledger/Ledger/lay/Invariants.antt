@@ -5,4 +5,4 @@ use Rattle.book.proofs.ledger.Ledger.lay.Given as goal
 
 abbrev pub invariant-loop-number : goal.invariant-loop-number
 invariant-loop-number l =
-    (k : ℕ) → get_or l.sheet k 0 ≡ slots_laid (size (state_of l.self)) (day_quarters (state_of l.self)) l.own l.reader.bytes.now l.number l.initial.sheet k
+    (k : ℕ) → get_or l.sheet k 0 ≡ slots_laid (size (state_of l.self)) (day_quarters (state_of l.self)) l.own l.message.bytes.now l.number l.initial.sheet k

@@ -1,5 +1,6 @@
-use Rattle.std.proofs.Common.{arith}
-use Rattle.book.specs.States.{state_of, today}
+use Rattle.std.proofs.Common.{ap, arith}
+use Rattle.book.specs.States.{state_of, size, today}
+use Rattle.book.specs.declared.ledger.Ledger.{Ledger}
 use Rattle.book.proofs.Days.{quarters_fit}
 use Rattle.book.proofs.ledger.Ledger.position.Goals as goal
 
@@ -8,6 +9,6 @@ position-requires c =
     let a = c.in_ok-a.ensures in
     let t = c.in_ok-t.ensures in
     record {
-      sheet = c.on.ensures.whole;
-      within = (omega (arith, a.3, c.on.ensures.groups), omega (arith, t.3, quarters_fit (today (state_of c.args.self.now))));
+      sheet = c.on_sheet.ensures.whole;
+      within = (omega (arith, a.3, c.on_sheet.ensures.groups, ap (λ (l : Ledger). size (state_of l)) c.in_ok-day.ensures.1.0), omega (arith, t.3, quarters_fit (today (state_of c.args.self.now))));
     }

@@ -1,5 +1,6 @@
-use Rattle.std.proofs.Common.{arith}
-use Rattle.book.specs.States.{state_of, today}
+use Rattle.std.proofs.Common.{ap, arith}
+use Rattle.book.specs.States.{state_of, size, today}
+use Rattle.book.specs.declared.ledger.Ledger.{Ledger}
 use Rattle.book.proofs.Days.{quarters_fit}
 use Rattle.book.proofs.ledger.Ledger.trade.Goals as goal
 
@@ -8,10 +9,11 @@ trade-requires c =
     let a = c.in_ok-a.ensures in
     let b = c.in_ok-b.ensures in
     let t = c.in_ok-t.ensures in
+    let same = ap (λ (l : Ledger). size (state_of l)) c.in_ok-day.ensures.1.0 in
     record {
-      sheet = c.on.ensures.whole;
+      sheet = c.on_sheet.ensures.whole;
       within = (
-        omega (arith, a.3, c.on.ensures.groups),
-        (omega (arith, b.3, c.on.ensures.groups), omega (arith, t.3, quarters_fit (today (state_of c.args.self.now)))),
+        omega (arith, a.3, c.on_sheet.ensures.groups, same),
+        (omega (arith, b.3, c.on_sheet.ensures.groups, same), omega (arith, t.3, quarters_fit (today (state_of c.args.self.now)))),
       );
     }

@@ -1,24 +1,22 @@
-use Rattle.std.proofs.Common.{ℕ, Bool, List, map, Err, sym, refl, ap, ◌∙◌}
+use Rattle.std.proofs.Common.{◌≡◌, ℕ, Bool, List, map, length, Ok, Err, sym, refl, ap, ◌∙◌}
 use Rattle.std.proofs.lemmas.List.{length-map}
 use Rattle.std.proofs.lemmas.Result.{err_from_is_err_and}
 use Rattle.book.specs.Closes.{Lent, close_check, day_closed, day_rows, balance_today}
-use Rattle.book.specs.Rows.{row_of}
+use Rattle.book.specs.Rows.{row_of, balance_in_row}
 use Rattle.book.specs.States.{State, state_of}
 use Rattle.book.proofs.Closing.{close_refused, close_accepted}
+use Rattle.book.proofs.RowLists.{closed_by_rows}
 use Rattle.book.proofs.opened.Opened.close.Goals as goal
 
-pub returns-in_err-check_close : goal.returns-in_err-check_close
-returns-in_err-check_close g c =
+pub returns-in_err-closing : goal.returns-in_err-closing
+returns-in_err-closing g c =
     let s : State = state_of c.args.self.now.ledger in
     let m : List Bool → ℕ = g.R.StageRule.meaning c.args.self.now.rule in
-    let sheet = c.args.sheet.now in
     let rows = c.args.rows.now in
-    let lent : Lent = record { sheet = sheet; rows = map row_of rows } in
+    let lent : Lent = record { sheet = c.args.sheet.now; rows = map row_of rows } in
     let p = err_from_is_err_and c.from_residual.result c.from_residual.ensures.1 in
-    let read = c.closing-reader.ensures.bytes in
-    let many = sym (length-map rows row_of) in
     record {
-      book = close_refused m s lent c.args.form.now c.from_residual.result _ (p.1 ∙ ap Err p.2) (c.in_err-check_close.ensures.value ∙ (λ j. close_check s sheet (many j) (read j)));
+      book = close_refused m s lent c.args.form.now c.from_residual.result _ (p.1 ∙ ap Err p.2) (sym (ap (λ n. close_check s c.args.sheet.now n c.args.form.now) (length-map rows row_of) ∙ c.in_err-closing.ensures));
       rule = refl;
     }
 
@@ -26,15 +24,19 @@ pub returns : goal.returns
 returns g c =
     let s : State = state_of c.args.self.now.ledger in
     let m : List Bool → ℕ = g.R.StageRule.meaning c.args.self.now.rule in
+    let form = c.args.form.now in
     let sheet = c.args.sheet.now in
     let rows = c.args.rows.now in
     let lent : Lent = record { sheet = sheet; rows = map row_of rows } in
-    let read = c.closing-reader.ensures.bytes in
-    let many = sym (length-map rows row_of) in
+    let found = c.in_ok-closing.ensures in
+    let ledger = found.1.0 in
+    let of-sheet = found.1.1 in
+    let of-form = found.1.2 in
+    let written = c.fill_rows.ensures.rows ∙ (λ j. day_rows m (state_of (ledger j)) (of-sheet j) (of-form j)) in
     record {
-      book = close_accepted m s lent c.args.form.now _ _
-          (c.in_ok-check_close.ensures.value ∙ (λ j. close_check s sheet (many j) (read j)))
-          (c.settle.ensures.book ∙ ap (λ f. day_closed s (balance_today s sheet f)) read)
-          (λ j. record { sheet = c.settle.ensures.sheet j; rows = (c.settle.ensures.rows ∙ ap (day_rows m s sheet) read) j });
-      rule = c.settle.ensures.rule;
+      book = close_accepted m s lent form _ _
+          (sym (ap (λ n. close_check s sheet n form) (length-map rows row_of) ∙ found.0))
+          (c.next_day-self.ensures ∙ (λ j. day_closed (state_of (ledger j)) (balance_in_row c.fill_rows.new.rows)) ∙ closed_by_rows m s sheet form c.fill_rows.new.rows written)
+          (λ j. record { sheet = c.clear.ensures j; rows = written j });
+      rule = refl;
     }

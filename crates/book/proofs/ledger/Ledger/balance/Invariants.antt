@@ -1,9 +1,0 @@
-use Rattle.std.proofs.Common.{◌≡◌, ◌*◌, ◌≤◌, nat_abs}
-use Rattle.book.specs.Closes.{cost_today}
-use Rattle.book.specs.States.{state_of}
-use Rattle.book.proofs.ledger.Ledger.balance.Given as goal
-
-abbrev pub invariant-loop-t : goal.invariant-loop-t
-invariant-loop-t l =
-    (l.cost ≡ cost_today (state_of l.self) l.sheet l.form.bytes.now l.a l.t)
-    × (nat_abs l.cost ≤ 68730000000000000 * l.t)
