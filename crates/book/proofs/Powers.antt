@@ -1,31 +1,10 @@
--- A pass over words that keeps whether all so far are within the bound.
+-- All bits of some words together.
 use Rattle.std.proofs.Common.{◌≡◌, ℕ, ◌+◌, ◌<◌, ◌≤◌, Bool, true, false, ◌&&◌, leb, List, [], ◌∷◌, length, get_or, drop, fold, sym, refl, ap, ◌∙◌, arith}
 use lib.Bits.{bit_or, or_add_and}
 use Rattle.forms.specs.Bounds.{power_bound}
 use Rattle.std.proofs.lemmas.Nat.{and_le_l, and_le_r}
 use Rattle.std.proofs.lemmas.Bool.{le-leb}
-use Rattle.std.proofs.lemmas.List.{drop_more, drop_all}
 use Rattle.book.specs.Sheets.{all_powers}
-
-and_assoc : (a b c : Bool) → ((a && b) && c) ≡ (a && (b && c))
-and_assoc true b c = refl
-and_assoc false b c = refl
-
-and_true : (a : Bool) → (a && true) ≡ a
-and_true true = refl
-and_true false = refl
-
--- one word more
-pub powers_more : (ws : List ℕ) (within : Bool) (i : ℕ) → i < length ws
-    → ((within && leb (get_or ws i 0) power_bound) && all_powers (drop (i + 1) ws)) ≡ (within && all_powers (drop i ws))
-unfolding all_powers
-powers_more ws within i h =
-    and_assoc within (leb (get_or ws i 0) power_bound) (all_powers (drop (i + 1) ws))
-    ∙ ap (λ v. within && all_powers v) (sym (drop_more ws i 0 h))
-
-pub powers_all : (ws : List ℕ) (within : Bool) (i : ℕ) → length ws ≤ i → (within && all_powers (drop i ws)) ≡ within
-unfolding all_powers
-powers_all ws within i h = ap (λ v. within && all_powers v) (drop_all i ws h) ∙ and_true within
 
 -- no word, and no bits before, are above all bits together
 below_or : (a b : ℕ) → (a ≤ bit_or a b) × (b ≤ bit_or a b)

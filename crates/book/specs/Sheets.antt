@@ -1,12 +1,12 @@
 -- When the sheet that is handed in fits the book.
-use Rattle.std.specs.Prelude.{ℕ, Bool, true, ◌&&◌, List, [], ◌∷◌, length, ◌==◌, nat_le}
+use Rattle.std.specs.Prelude.{ℕ, Bool, ◌&&◌, List, length, ◌==◌, nat_le}
+use Rattle.std.specs.List.{list_all}
 use Rattle.forms.specs.Bounds.{power_bound}
 use Rattle.settlement.specs.Sheets.{sheet_size}
 
 -- no word is above the bound on powers
 unfoldable pub all_powers : List ℕ → Bool
-all_powers [] = true
-all_powers (w ∷ ws) = nat_le w power_bound && all_powers ws
+all_powers words = list_all (λ w. nat_le w power_bound) words
 
 -- a sheet for g groups: its length, and each of its words
 abbrev pub sheet_fits : ℕ → List ℕ → Bool

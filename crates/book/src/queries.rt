@@ -1,8 +1,9 @@
 //! Questions: they change nothing.
-ghost use Rattle.std.specs.Prelude.{◌≡◌, ◌+◌, ◌-◌, ◌<◌, ◌≤◌, map, length};
+ghost use Rattle.forms.specs.Checks.{refuse_if};
+ghost use Rattle.std.specs.Prelude.{not, ◌≡◌, ◌+◌, ◌-◌, ◌<◌, ◌≤◌, map, length};
 ghost use Rattle.stage.specs.Marked.{marks_of};
 ghost use Rattle.book.specs.Kept.{cut_offs};
-ghost use Rattle.book.specs.Queries.{Numbered, group_check, quarter_check, position_answer, trade_answer, standing_answer, total_answer, standing_of, total_of};
+ghost use Rattle.book.specs.Queries.{Numbered, one_of, group_check, quarter_check, position_answer, trade_answer, standing_answer, total_answer, standing_of, total_of};
 ghost use Rattle.book.specs.States.{state_of, size, kept, day_quarters, account_of};
 
 use crate::answers::{Standing, Total};
@@ -12,28 +13,33 @@ use forms::fault::Fault;
 use settlement::phase::Phase;
 use stage::rule::StageRule;
 
+/// The place, from 0, of a number from 1 to `most`, or the fault.
+fn numbered(number: u16, most: usize, fault: Fault) -> Result<usize, Fault>
+    ensures { Numbered result (refuse_if (not (one_of most number)) fault) number most }
+{
+    usize::from(number)
+        .checked_sub(1)
+        .filter(|&place| place < most)
+        .ok_or(fault)
+}
+
 impl Ledger {
     /// The place, from 0, of a group's number.
     pub(crate) fn check_group(&self, group: u16) -> Result<usize, Fault>
         ensures { Numbered result (group_check (state_of self.now) group) group (size (state_of self.now)) }
     {
-        if group < 1 || group as usize > self.groups() {
-            return Err(Fault::WrongGroup);
-        }
-        Ok(group as usize - 1)
+        numbered(group, self.groups(), Fault::WrongGroup)
     }
 
     /// The place, from 0, of a quarter hour's number.
     pub(crate) fn check_quarter(&self, quarter: u16) -> Result<usize, Fault>
         ensures { Numbered result (quarter_check (state_of self.now) quarter) quarter (day_quarters (state_of self.now)) }
     {
-        if quarter < 1 || quarter > u16::from(self.quarters()) {
-            return Err(Fault::OutOfRange {
-                series: 0,
-                quarter: 0,
-            });
-        }
-        Ok(quarter as usize - 1)
+        let unknown = Fault::OutOfRange {
+            series: 0,
+            quarter: 0,
+        };
+        numbered(quarter, usize::from(self.quarters()), unknown)
     }
 
     /// Stated open position, confirmed open position and confirmed net purchases.
@@ -100,9 +106,7 @@ impl<R: StageRule> Opened<R> {
         ensures { standing_of result ≡ standing_answer (R.meaning self.now.rule) (state_of self.now.ledger) group day }
     {
         let a = self.ledger.check_group(group)?;
-        if day < 1 || day > self.ledger.cut_offs() {
-            return Err(Fault::WrongDay);
-        }
+        numbered(day, usize::from(self.ledger.cut_offs()), Fault::WrongDay)?;
         let marks = self.ledger.account(a).marks.first(day);
         Ok(Standing {
             mark: marks.marked(day),

@@ -9,22 +9,14 @@ use settlement::sheet::sheet_size;
 fn all_bits(words: &[u32]) -> u32
     ensures { result ≡ fold bit_or 0 words.now }
 {
-    let mut bits = 0;
-    for word in words {
-        bits |= *word;
-    }
-    bits
+    words.iter().fold(0, |bits, word| bits | *word)
 }
 
 /// Whether no word is above the bound on powers, word by word.
 fn each_within(words: &[u32]) -> bool
     ensures { result ≡ all_powers words.now }
 {
-    let mut within = true;
-    for word in words {
-        within &= *word <= POWER_BOUND;
-    }
-    within
+    words.iter().all(|word| *word <= POWER_BOUND)
 }
 
 /// Whether no word is above the bound on powers. Where all their bits together are not, none is.
@@ -46,7 +38,5 @@ pub(crate) fn sheet_fits(groups: usize, sheet: &[u32]) -> bool
 pub(crate) fn clear(sheet: &mut [u32])
     ensures { sheet.new ≡ replicate (length sheet.old) 0 }
 {
-    for word in sheet.iter_mut() {
-        *word = 0;
-    }
+    sheet.fill(0);
 }

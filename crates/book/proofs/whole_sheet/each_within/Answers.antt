@@ -1,15 +1,10 @@
-use Rattle.std.proofs.Common.{sym, refl, ◌∙◌, arith}
-use Rattle.book.proofs.Powers.{powers_more, powers_all}
+use Rattle.std.proofs.Common.{leb, rules, tests}
+use Rattle.std.proofs.lemmas.Iterator.{YieldsList-from_slice}
+use Rattle.std.proofs.lemmas.Iterator.Search.{all_from_yields_List}
+use Rattle.forms.specs.Bounds.{power_bound}
+use Rattle.book.specs.Sheets.{all_powers}
 use Rattle.book.proofs.whole_sheet.each_within.Goals as goal
 
-pub loop-word-init : goal.loop-word-init
-loop-word-init c = refl
-
-pub loop-word-preserved : goal.loop-word-preserved
-loop-word-preserved c =
-    powers_more c.args.words.now c.loop-word.within c.loop-word.word-index (omega arith)
-    ∙ c.loop-word.invariant
-
 pub returns : goal.returns
-returns c =
-    sym (powers_all c.args.words.now c.loop-word.within c.loop-word.word-index (omega arith)) ∙ c.loop-word.invariant
+unfolding all_powers
+returns c = all_from_yields_List (λ w. leb w power_bound) _ _ _ c.all.ensures.ran (YieldsList-from_slice c.args.words.now cc) (λ x b q k. search (rules, tests))

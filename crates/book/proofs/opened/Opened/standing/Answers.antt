@@ -1,6 +1,9 @@
-use Rattle.std.proofs.Common.{◌≡◌, ◌-◌, ◌≤◌, take, ap, ◌∙◌, le_refl, arith}
+use Rattle.std.proofs.Common.{◌≡◌, ◌-◌, not, take, sym, ap, ◌∙◌, le_refl, arith}
 use Rattle.stage.specs.Marked.{marks_of, on_day}
 use Rattle.stage.specs.MarkLists.{on_day_take}
+use Rattle.forms.specs.Checks.{refuse_if}
+use Rattle.forms.specs.declared.fault.Fault.TheVariants.{WrongDay}
+use Rattle.book.specs.Queries.{one_of}
 use Rattle.book.specs.Kept.{cut_offs}
 use Rattle.book.specs.States.{State, GroupState, state_of, kept}
 use Rattle.book.proofs.Verdicts.{one_of_true, not_refused, both_passed, answered}
@@ -18,7 +21,6 @@ returns g c =
     let mark-is : c.marked.result ≡ on_day xs day = c.marked.ensures ∙ ap (λ v. on_day v day) cut ∙ on_day_take day xs day (le_refl day) in
     let stage_is : c.stage.result ≡ g.R.StageRule.meaning c.args.self.now.rule (take day xs) =
     c.stage.ensures ∙ ap (g.R.StageRule.meaning c.args.self.now.rule) cut in
-    let past : day ≤ cut_offs s.closed s.phase = omega (arith, c.cut_offs.ensures, c.if-day-cut_offs.false) in
     answered _ _ _
-    (both_passed _ _ found.0 (not_refused _ _ (one_of_true (cut_offs s.closed s.phase) day (omega (arith, c.if-day-lt1.false)) past)))
+    (both_passed _ _ found.0 (ap (λ n. refuse_if (not (one_of n day)) WrongDay) (sym (c.from.ensures ∙ c.cut_offs.ensures)) ∙ c.in_ok-numbered.ensures.0))
     (λ j. (mark-is j, stage_is j))
