@@ -1,5 +1,7 @@
 -- Counts and first places, one step on.
-use Rattle.std.proofs.Common.{◌≡◌, ℕ, ◌+◌, Bool, true, false, Some, None, Option, refl, add-zero, add-one}
+use Rattle.std.proofs.Common.{◌≡◌, ℕ, zero, suc, ◌+◌, Bool, true, false, Some, None, Option, is_some, List, [], ◌∷◌, ◌++◌, ◌||◌, refl, sym, ap, ◌∙◌, add-zero, add-one, arith}
+use Rattle.std.specs.List.{range_with_len, list_any}
+use Rattle.std.proofs.lemmas.List.Folds.{list_any-append}
 use Rattle.std.specs.Option.{option_map, option_or}
 use Rattle.message.specs.Places.{first_of, or_at}
 use Rattle.book.specs.Messages.{count_where}
@@ -32,3 +34,20 @@ first_no p n e = rw (add-one n) (rw e (or_no (first_of p n) n))
 pub or_told : (o : Option ℕ) (n : ℕ) → option_or (option_map (λ k. k + 1) o) (Some (n + 1)) ≡ option_map (λ k. k + 1) (or_at o true n)
 or_told (Some k) n = refl
 or_told None n = refl
+
+-- whether some number below n meets a test, and whether there is a first
+or_there : (o : Option ℕ) (b : Bool) (n : ℕ) → (is_some o || (b || false)) ≡ is_some (or_at o b n)
+or_there (Some i) b n = refl
+or_there None true n = refl
+or_there None false n = refl
+
+range_more : (a n : ℕ) → range_with_len a (suc n) ≡ range_with_len a n ++ (a + n) ∷ []
+range_more a zero = ap (λ k. k ∷ []) (sym (add-zero a))
+range_more a (suc n) = ap (λ l. a ∷ l) (range_more (a + 1) n ∙ ap (λ k. range_with_len (a + 1) n ++ k ∷ []) (omega arith))
+
+pub any_first : (p : ℕ → Bool) (n : ℕ) → list_any p (range_with_len 0 n) ≡ is_some (first_of p n)
+unfolding first_of
+any_first p zero = refl
+any_first p (suc n) =
+    let last : 0 + n ≡ n = omega arith in
+    ap (list_any p) (range_more 0 n ∙ ap (λ k. range_with_len 0 n ++ k ∷ []) last) ∙ list_any-append p (range_with_len 0 n) (n ∷ []) ∙ ap (λ b. b || (p n || false)) (any_first p n) ∙ or_there (first_of p n) (p n) n

@@ -65,8 +65,8 @@ impl ClosingDay<'_, '_, '_> {
         ensures rows { map row_of rows.new ≡ day_rows (R.meaning rule.now) (state_of self.now.day.ledger.now) self.now.day.sheet.now self.now.form.bytes.now }
         ensures bound { (k : ℕ) → slice_index (map amount_in rows.new) k ≤ most_balance }
     {
-        for a in 0..self.day.ledger.groups() {
-            rows[a] = self.result_row(rule, a);
+        for (a, row) in rows.iter_mut().enumerate() {
+            *row = self.result_row(rule, a);
         }
     }
 
@@ -77,8 +77,8 @@ impl ClosingDay<'_, '_, '_> {
     {
         let ledger = self.day.ledger;
         let mut accounts = ledger.accounts;
-        for a in 0..ledger.groups() {
-            accounts[a] = day_done(&ledger.account(a), rows[a].balance);
+        for (a, row) in rows.iter().enumerate() {
+            accounts[a] = day_done(&ledger.account(a), row.balance);
         }
         // a struct with ghost fields takes no `..`
         Ledger {

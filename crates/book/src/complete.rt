@@ -38,12 +38,7 @@ impl Sending<'_, '_, '_> {
     fn leaves_out(&self) -> bool
         ensures { result ≡ is_some (first_of (left_out (state_of self.now.day.ledger.now) self.now.own self.now.message.bytes.now) (slots (size (state_of self.now.day.ledger.now)))) }
     {
-        for number in 0..slots_per_group(self.day.ledger.groups()) {
-            if self.leaves_out_at(number) {
-                return true;
-            }
-        }
-        false
+        (0..slots_per_group(self.day.ledger.groups())).any(|number| self.leaves_out_at(number))
     }
 
     /// Refuses a message that leaves out a series accepted today, or a forecast of a metered group.

@@ -13,7 +13,7 @@ loop-a-preserved g c =
     let s : State = state_of c.args.self.now.day.ledger.now in
     let m : List Bool → ℕ = g.R.StageRule.meaning c.args.rule.now in
     let xs = c.loop-a.rows in
-    let within : c.loop-a.a < length xs = omega (arith, c.loop-a.auto.rows, c.requires, c.groups-a-end.ensures.value, c.loop-a-test.true) in (
+    let within : c.loop-a.a < length xs = omega (arith, c.loop-a-test.true) in (
       written_more row_of (day_row m s c.args.self.now.day.sheet.now c.args.self.now.form.bytes.now) xs c.loop-a.a c.result_row.result within c.result_row.ensures.row c.loop-a.invariant.0,
       amounts_more xs c.loop-a.a c.result_row.result within c.result_row.ensures.bound c.loop-a.invariant.1,
     )
@@ -24,7 +24,7 @@ returns g c =
     let s : State = state_of c.args.self.now.day.ledger.now in
     let f = day_row (g.R.StageRule.meaning c.args.rule.now) s c.args.self.now.day.sheet.now c.args.self.now.form.bytes.now in
     let xs = c.loop-a.rows in
-    let all : c.loop-a.a ≡ size s = omega (arith, c.groups-a-end.ensures.value, c.loop-a-test.false, c.loop-a.auto.a-end) in
+    let all : c.loop-a.a ≡ size s = omega (arith, c.requires, c.loop-a.auto.rows, c.loop-a-test.false) in
     let long : length xs ≡ size s = omega (arith, c.loop-a.auto.rows, c.requires) in
     record {
       rows = ap (map row_of) (sym (take_all (size s) xs (omega arith))) ∙ written_all row_of f xs c.loop-a.a (size s) all c.loop-a.invariant.0;
