@@ -11,10 +11,9 @@ use Rattle.forms.proofs.Firsts.{and_then_left, and_then_right, allowed}
 use Rattle.message.specs.Form.{header_of, said}
 use Rattle.settlement.specs.Sheets.{Within, slots, slot_number, slot_place, sheet_size, on_sheet}
 use Rattle.settlement.proofs.Places.{number_below, place_below}
-use Rattle.book.specs.Cuts.{state_if}
 use Rattle.book.specs.Meant.{MessageStands, MessageFixesNothing}
 use Rattle.book.specs.Messages.{sent_after, word_after, sheet_after, flags_after, submit_check, sender_check, series_check, passed, with_version, state_with, beyond_count}
-use Rattle.book.specs.Queries.{one_of, day_check, group_check}
+use Rattle.book.specs.Queries.{if_passed, one_of, day_check, group_check}
 use Rattle.book.specs.Sheets.{sheet_fits, all_powers}
 use Rattle.book.specs.States.{State, GroupState, nothing_kept, size, kept, today, day_quarters, year_over, statements}
 use Rattle.book.proofs.Accepted.{own_statements}
@@ -113,7 +112,7 @@ alike_set p xs i a v d h =
     ]
 
 alike : {B : Type 0} (p : GroupState → B) (s : State) (own version : ℕ) (form : List ℕ) (a : ℕ) (v : Verdict)
-    → p (with_version (kept s own) version) ≡ p (kept s own) → p (kept (state_if v (state_with s own version form) s) a) ≡ p (kept s a)
+    → p (with_version (kept s own) version) ≡ p (kept s own) → p (kept (if_passed v (state_with s own version form) s) a) ≡ p (kept s a)
 alike p s own version form a (Ok x) h = alike_set p s.groups own a (with_version (kept s own) version) nothing_kept h
 alike p s own version form a (Err x) h = refl
 

@@ -8,9 +8,9 @@ use Rattle.stage.specs.Marked.{on_day}
 use Rattle.settlement.specs.declared.phase.Phase.TheVariants.{Ahead}
 use Rattle.settlement.specs.Amounts.{imbalance_cost, day_cost, balance_amount}
 use Rattle.settlement.specs.Positions.{net_purchases}
-use Rattle.book.specs.Cuts.{is_after, state_if}
+use Rattle.book.specs.Cuts.{is_after}
 use Rattle.book.specs.Rows.{Row}
-use Rattle.book.specs.Queries.{day_check}
+use Rattle.book.specs.Queries.{if_passed, day_check}
 use Rattle.book.specs.States.{State, GroupState, all_flags, size, kept, today, day_quarters, statements}
 
 -- What the caller lends a call.
@@ -85,15 +85,11 @@ close_check s sheet rows form =
     (and_then (day_check s sheet)
     (and_then (refuse_if (not (rows == size s)) WrongBuffer) (closing_check (size s) (day_quarters s) form))))
 
-abbrev pub lent_if : Verdict → Lent → Lent → Lent
-lent_if (Ok _) after before = after
-lent_if (Err e) after before = before
-
 -- what close answers, the state after it, and what it leaves in what was lent
 abbrev pub closed_by : (List Bool → ℕ) → State → Lent → List ℕ → Verdict × State × Lent
 closed_by m s lent form =
     let check = close_check s lent.sheet (length lent.rows) form in (
       check,
-      state_if check (day_closed s (balance_today s lent.sheet form)) s,
-      lent_if check (record { sheet = replicate (length lent.sheet) 0; rows = day_rows m s lent.sheet form }) lent,
+      if_passed check (day_closed s (balance_today s lent.sheet form)) s,
+      if_passed check (record { sheet = replicate (length lent.sheet) 0; rows = day_rows m s lent.sheet form }) lent,
     )

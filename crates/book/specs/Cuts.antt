@@ -1,5 +1,5 @@
 -- What advance does.
-use Rattle.std.specs.Prelude.{ℕ, ◌+◌, Bool, true, false, List, [], ◌∷◌, ◌++◌, map, Ok, Err}
+use Rattle.std.specs.Prelude.{ℕ, ◌+◌, Bool, true, false, List, [], ◌∷◌, ◌++◌, map}
 use Rattle.std.specs.List.{range_with_len}
 use Rattle.forms.specs.declared.fault.Fault.TheVariants.{WrongPhase}
 use Rattle.forms.specs.Figures.{RateFigures}
@@ -8,7 +8,7 @@ use Rattle.settlement.specs.declared.phase.Phase.{Phase}
 use Rattle.settlement.specs.declared.phase.Phase.TheVariants.{Ahead, Near, After}
 use Rattle.settlement.specs.Positions.{day_excess}
 use Rattle.settlement.specs.Amounts.{is_marked, row_for, penalty}
-use Rattle.book.specs.Queries.{day_check}
+use Rattle.book.specs.Queries.{if_passed, day_check}
 use Rattle.book.specs.States.{State, GroupState, size, figures, kept, day_quarters, statements}
 
 abbrev pub is_after : Phase → Bool
@@ -53,16 +53,6 @@ abbrev pub advance_check : State → List ℕ → Verdict
 advance_check s sheet =
     and_then (refuse_if (is_after s.phase) WrongPhase) (day_check s sheet)
 
--- the state after checks that passed, or the one before
-abbrev pub state_if : Verdict → State → State → State
-state_if (Ok _) after before = after
-state_if (Err e) after before = before
-
--- and the same of a sheet
-abbrev pub sheet_if : Verdict → List ℕ → List ℕ → List ℕ
-sheet_if (Ok _) after before = after
-sheet_if (Err e) after before = before
-
 -- what advance answers, and the state after it
 abbrev pub advanced : (List Bool → ℕ) → State → List ℕ → Verdict × State
-advanced m s sheet = (advance_check s sheet, state_if (advance_check s sheet) (next_phase m s sheet s.phase) s)
+advanced m s sheet = (advance_check s sheet, if_passed (advance_check s sheet) (next_phase m s sheet s.phase) s)

@@ -14,8 +14,8 @@ use Rattle.settlement.specs.declared.phase.Phase.TheVariants.{After}
 use Rattle.settlement.specs.Positions.{stated_open, excess, as_far_out}
 use Rattle.settlement.specs.Sheets.{Statements, slots, slot_at, sheet_size, words_per_slot}
 use Rattle.book.specs.declared.answers.Submitted.{Submitted}
-use Rattle.book.specs.Cuts.{is_after, state_if, sheet_if}
-use Rattle.book.specs.Queries.{answer_if, day_check, group_check}
+use Rattle.book.specs.Cuts.{is_after}
+use Rattle.book.specs.Queries.{answer_if, if_passed, day_check, group_check}
 use Rattle.book.specs.States.{State, GroupState, size, figures, kept, today, day_quarters, statements}
 
 -- how many of the numbers below n pass a test
@@ -141,8 +141,8 @@ beyond_count s own form =
 abbrev pub submitted : State → List ℕ → List ℕ → Result (ℕ × Option ℕ) Fault × State × List ℕ
 submitted s sheet form = (
   answer_if (submit_check s sheet form) (beyond_count s ((said form).group - 1) form),
-  state_if (submit_check s sheet form) (state_with s ((said form).group - 1) (said form).version form) s,
-  sheet_if (submit_check s sheet form) (sheet_after (size s) (day_quarters s) ((said form).group - 1) form sheet) sheet,
+  if_passed (submit_check s sheet form) (state_with s ((said form).group - 1) (said form).version form) s,
+  if_passed (submit_check s sheet form) (sheet_after (size s) (day_quarters s) ((said form).group - 1) form sheet) sheet,
 )
 
 -- the same answer as the code holds it

@@ -6,7 +6,7 @@ use Rattle.forms.specs.Figures.{Terms}
 use Rattle.forms.specs.Openings.{sizes_check, rows_check, groups_told, terms_of}
 use Rattle.settlement.specs.declared.phase.Phase.TheVariants.{Ahead}
 use Rattle.book.specs.declared.opened.Opened.{Opened}
-use Rattle.book.specs.Cuts.{sheet_if}
+use Rattle.book.specs.Queries.{if_passed}
 use Rattle.book.specs.Sheets.{sheet_fits}
 use Rattle.book.specs.States.{State, all_flags, nothing_kept, state_of}
 
@@ -30,14 +30,10 @@ open_check form sheet =
     and_then (sizes_check form)
     (and_then (refuse_if (not (sheet_fits (groups_told form) sheet)) WrongBuffer) (rows_check form))
 
-abbrev pub place_if : {R : Type 0} → Verdict → R → State → Option (R × State) → Option (R × State)
-place_if (Ok _) rule s before = Some (rule, s)
-place_if (Err e) rule s before = before
-
 -- what open answers, what the place holds then, and the sheet: zero everywhere
 abbrev pub opened_by : {R : Type 0} → Option (R × State) → R → List ℕ → List ℕ → Verdict × Option (R × State) × List ℕ
 opened_by place rule form sheet = (
   open_check form sheet,
-  place_if (open_check form sheet) rule (new_book (terms_of form)) place,
-  sheet_if (open_check form sheet) (replicate (length sheet) 0) sheet,
+  if_passed (open_check form sheet) (Some (rule, new_book (terms_of form))) place,
+  if_passed (open_check form sheet) (replicate (length sheet) 0) sheet,
 )

@@ -16,6 +16,11 @@ abbrev pub answer_if : {A : Type 0} → Verdict → A → Result A Fault
 answer_if (Ok _) x = Ok x
 answer_if (Err e) x = Err e
 
+-- what stands after checks that passed, or what stood before
+abbrev pub if_passed : {A B : Type 0} → Result A Fault → B → B → B
+if_passed (Ok _) after before = after
+if_passed (Err e) after before = before
+
 -- a number from 1 to n
 abbrev pub one_of : ℕ → ℕ → Bool
 one_of n x = nat_le 1 x && nat_le x n

@@ -14,10 +14,10 @@ use Rattle.settlement.specs.declared.phase.Phase.TheVariants.{Ahead, Near}
 use Rattle.settlement.specs.Positions.{confirmed, confirmed_with, stated_with, stated_open, confirmed_open, day_excess}
 use Rattle.settlement.specs.Sheets.{on_sheet}
 use Rattle.settlement.specs.Sums.{sumℕ, sumℤ}
-use Rattle.book.specs.Cuts.{cut_off, past_cut_off, state_if}
+use Rattle.book.specs.Cuts.{cut_off, past_cut_off}
 use Rattle.book.specs.Messages.{submit_check, beyond_count, state_with, sheet_after, flags_after, by_message, count_where}
 use Rattle.book.specs.Opens.{open_check, new_book}
-use Rattle.book.specs.Queries.{day_check, standing_answer, total_answer}
+use Rattle.book.specs.Queries.{if_passed, day_check, standing_answer, total_answer}
 use Rattle.book.specs.Sheets.{all_powers}
 use Rattle.book.specs.States.{State, GroupState, nothing_kept}
 use Rattle.book.proofs.Submitting.{submit_accepted}
@@ -111,8 +111,8 @@ module _ (flags : List Bool) (groups : List GroupState) (w : List ℕ) (j : Jour
   past_one_day : Brings m opening j ahead w → day_check ahead w ≡ Ok tt → Ok x ≡ standing_answer m after 1 1 → Ok y ≡ total_answer after 1
       → JournalOf m opening (total 1 (Ok y) ∷ standing 1 1 (Ok x) ∷ advance w (Ok tt) ∷ advance w (Ok tt) ∷ j)
   past_one_day b fits stands owes =
-      let to-near : Stepped m (advance w (Ok tt)) ahead w near w = (refl, sym fits, ap (λ v. state_if v near ahead) (sym fits), refl) in
-      let to-after : Stepped m (advance w (Ok tt)) near w after w = (refl, sym fits, ap (λ v. state_if v after near) (sym fits), refl) in
+      let to-near : Stepped m (advance w (Ok tt)) ahead w near w = (refl, sym fits, ap (λ v. if_passed v near ahead) (sym fits), refl) in
+      let to-after : Stepped m (advance w (Ok tt)) near w after w = (refl, sym fits, ap (λ v. if_passed v after near) (sym fits), refl) in
       let still : Step after w after w = record { book = refl; sheet = refl } in
       (after, w, (after, w, (after, w, (near, w, (ahead, w, b, to-near), to-after), (stands, still)), (owes, still)))
 

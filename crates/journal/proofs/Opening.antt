@@ -13,8 +13,8 @@ use Rattle.settlement.specs.Sheets.{slot_place, sheet_size}
 use Rattle.settlement.specs.Sums.{sumℕ, sumℤ}
 use Rattle.settlement.proofs.Places.{on_sheet_unsent}
 use Rattle.settlement.proofs.Sums.{sumℕ-none, sumℤ-none}
-use Rattle.book.specs.Cuts.{sheet_if}
-use Rattle.book.specs.Opens.{new_book, open_check, place_if, opened_by}
+use Rattle.book.specs.Queries.{if_passed}
+use Rattle.book.specs.Opens.{new_book, open_check, opened_by}
 use Rattle.book.specs.Sheets.{sheet_fits, all_powers}
 use Rattle.book.specs.States.{State, all_flags, nothing_kept, kept, statements}
 use Rattle.book.proofs.Days.{flags_enough}
@@ -35,10 +35,10 @@ module _ (m : Meaning) (form given : List ℕ) (s : State) (w : List ℕ) (h : o
   pub state_new : new_book (terms_of form) ≡ s
   state_new =
       let new = new_book (terms_of form) in
-      ap (state_in new) (sym (ap (λ v. place_if v m new None) checked) ∙ ap (λ o. o.1) h)
+      ap (state_in new) (sym (ap (λ v. if_passed v (Some (m, new)) None) checked) ∙ ap (λ o. o.1) h)
 
   pub sheet_new : replicate (length given) 0 ≡ w
-  sheet_new = sym (ap (λ v. sheet_if v (replicate (length given) 0) given) checked) ∙ ap (λ o. o.2) h
+  sheet_new = sym (ap (λ v. if_passed v (replicate (length given) 0) given) checked) ∙ ap (λ o. o.2) h
 
   sized : sizes_check form ≡ Ok tt
   sized = and_then_left (sizes_check form) _ checked

@@ -4,14 +4,14 @@ use Rattle.std.proofs.lemmas.List.{length-replicate}
 use Rattle.forms.specs.declared.fault.Fault.{Fault}
 use Rattle.forms.specs.Checks.{Verdict}
 use Rattle.forms.specs.Openings.{terms_of}
-use Rattle.book.specs.Closes.{Lent, lent_if, close_check, balance_today, day_closed, day_rows, closed_by}
-use Rattle.book.specs.Cuts.{advanced, state_if, sheet_if}
+use Rattle.book.specs.Closes.{Lent, close_check, balance_today, day_closed, day_rows, closed_by}
+use Rattle.book.specs.Cuts.{advanced}
 use Rattle.book.specs.Messages.{submitted}
-use Rattle.book.specs.Opens.{new_book, open_check, opened_by, place_if}
-use Rattle.book.specs.Queries.{answer_if, position_answer, trade_answer, standing_answer, total_answer}
+use Rattle.book.specs.Opens.{new_book, open_check, opened_by}
+use Rattle.book.specs.Queries.{if_passed, answer_if, position_answer, trade_answer, standing_answer, total_answer}
 use Rattle.book.specs.Rows.{Row, no_row}
 use Rattle.book.specs.States.{State}
-use Rattle.journal.specs.Books.{Own, Stepped, Brings, left_if}
+use Rattle.journal.specs.Books.{Own, Stepped, Brings}
 use Rattle.journal.specs.Exists.{Call, call_of, Handed, OwnSheet, OneJournal}
 use Rattle.journal.specs.Journals.{Entry, Journal}
 use Rattle.journal.specs.Reckoned.{Meaning}
@@ -22,11 +22,11 @@ own_itself (Ok x) w = refl
 own_itself (Err e) w = tt
 
 -- what was lent has no part in what close answers and leaves
-rows_told : (v : Verdict) (after before : Lent) → answer_if v (lent_if v after before).rows ≡ answer_if v after.rows
+rows_told : (v : Verdict) (after before : Lent) → answer_if v (if_passed v after before).rows ≡ answer_if v after.rows
 rows_told (Ok x) after before = refl
 rows_told (Err e) after before = refl
 
-sheet_left : (v : Verdict) (rows : List Row) (after before : Lent) (w : List ℕ) → left_if (answer_if v rows) (lent_if v after before).sheet w ≡ left_if (answer_if v rows) after.sheet w
+sheet_left : (v : Verdict) (rows : List Row) (after before : Lent) (w : List ℕ) → if_passed (answer_if v rows) (if_passed v after before).sheet w ≡ if_passed (answer_if v rows) after.sheet w
 sheet_left (Ok x) rows after before w = refl
 sheet_left (Err e) rows after before w = refl
 
@@ -39,10 +39,10 @@ module _ (m : Meaning) (s : State) (w : List ℕ) where
   close_told form rows = answer_if (close_check s w rows form) (day_rows m s w form)
 
   abbrev next : Call → Reached
-  next (Call.submit form) = (Entry.submit form w (submitted s w form).0, (submitted s w form).1, left_if (submitted s w form).0 (submitted s w form).2 w)
+  next (Call.submit form) = (Entry.submit form w (submitted s w form).0, (submitted s w form).1, if_passed (submitted s w form).0 (submitted s w form).2 w)
   next Call.advance = (Entry.advance w (advanced m s w).0, (advanced m s w).1, w)
   next (Call.close form rows) =
-      (Entry.close form w rows (close_told form rows), state_if (close_check s w rows form) (day_closed s (balance_today s w form)) s, left_if (close_told form rows) (replicate (length w) 0) w)
+      (Entry.close form w rows (close_told form rows), if_passed (close_check s w rows form) (day_closed s (balance_today s w form)) s, if_passed (close_told form rows) (replicate (length w) 0) w)
   next (Call.position group quarter) = (Entry.position w group quarter (position_answer s w group quarter), s, w)
   next (Call.trade from to quarter) = (Entry.trade w from to quarter (trade_answer s w from to quarter), s, w)
   next (Call.standing group day) = (Entry.standing group day (standing_answer m s group day), s, w)
@@ -77,14 +77,14 @@ module _ (m : Meaning) (s : State) (w : List ℕ) where
     close_answer : close_told form rows ≡ answer_if o.0 o.2.rows
     close_answer = ap (close_told form) (sym long) ∙ sym (rows_told (close_check s w (length lent) form) laid (record { sheet = w; rows = lent }))
 
-    close_state : state_if (close_check s w rows form) (day_closed s (balance_today s w form)) s ≡ o.1
-    close_state = ap (λ n. state_if (close_check s w n form) (day_closed s (balance_today s w form)) s) (sym long)
+    close_state : if_passed (close_check s w rows form) (day_closed s (balance_today s w form)) s ≡ o.1
+    close_state = ap (λ n. if_passed (close_check s w n form) (day_closed s (balance_today s w form)) s) (sym long)
 
-    close_sheet : left_if (close_told form rows) (replicate (length w) 0) w ≡ left_if (close_told form rows) o.2.sheet w
+    close_sheet : if_passed (close_told form rows) (replicate (length w) 0) w ≡ if_passed (close_told form rows) o.2.sheet w
     close_sheet =
-        ap (λ n. left_if (close_told form n) (replicate (length w) 0) w) (sym long)
+        ap (λ n. if_passed (close_told form n) (replicate (length w) 0) w) (sym long)
         ∙ sym (sheet_left (close_check s w (length lent) form) (day_rows m s w form) laid (record { sheet = w; rows = lent }) w)
-        ∙ ap (λ n. left_if (close_told form n) o.2.sheet w) long
+        ∙ ap (λ n. if_passed (close_told form n) o.2.sheet w) long
 
   steps : (c : Call) → Stepped m (next c).0 s w (next c).1 (next c).2
   steps (Call.submit form) = (own_itself (submitted s w form).0 w, refl, refl, refl)
@@ -121,7 +121,7 @@ module _ (m : Meaning) (form given : List ℕ) (accepted : open_check form given
       (o.0 ∷ before.0, o.1, o.2)
 
   pub opens : opened_by None m form given ≡ (Ok tt, Some (m, new_book (terms_of form)), replicate (length given) 0)
-  opens = ap (λ v. (v, place_if v m (new_book (terms_of form)) None, sheet_if v (replicate (length given) 0) given)) accepted
+  opens = ap (λ v. (v, if_passed v (Some (m, new_book (terms_of form))) None, if_passed v (replicate (length given) 0) given)) accepted
 
   brings : (cs : List Call) → Brings m form (run cs).0 (run cs).1 (run cs).2
   brings [] = (given, opens)

@@ -10,11 +10,11 @@ use Rattle.message.specs.Form.{said}
 use Rattle.forms.proofs.Firsts.{and_then_left, and_then_right, unrefused, allowed}
 use Rattle.settlement.specs.declared.phase.Phase.{Phase}
 use Rattle.settlement.specs.declared.phase.Phase.TheVariants.{Ahead, Near, After}
-use Rattle.book.specs.Closes.{close_check, lent_if, balance_today, day_closed, day_rows}
-use Rattle.book.specs.Cuts.{advance_check, advanced, is_after, next_phase, cut_off, state_if}
+use Rattle.book.specs.Closes.{Lent, close_check, balance_today, day_closed, day_rows}
+use Rattle.book.specs.Cuts.{advance_check, advanced, is_after, next_phase, cut_off}
 use Rattle.book.specs.Messages.{submit_check, submitted, state_with, beyond_count}
 use Rattle.book.specs.Opens.{new_book}
-use Rattle.book.specs.Queries.{group_check, position_check, position_answer, trade_check, trade_answer, standing_check}
+use Rattle.book.specs.Queries.{if_passed, group_check, position_check, position_answer, trade_check, trade_answer, standing_check}
 use Rattle.book.specs.States.{State, size, day_quarters}
 use Rattle.journal.specs.Books.{Stepped, Brings}
 use Rattle.journal.specs.Journals.{Entry, submit, advance, close, position, trade, standing, total, Journal}
@@ -81,32 +81,32 @@ module _ (m : Meaning) (terms : Terms) (j : Journal) (s : State) (w : List ℕ) 
   step (submit form given (Err x)) after left st =
       let refused = refused_by (submit_check s given form) x (beyond_count s ((said form).group - 1) form) st.1 in
       still (submit form given (Err x)) after left (record { no_advance = refl; no_close = refl; no_message = λ a. refl })
-      (st.2 ∙ ap (λ v. state_if v (state_with s ((said form).group - 1) (said form).version form) s) refused) st.3
+      (st.2 ∙ ap (λ v. if_passed v (state_with s ((said form).group - 1) (said form).version form) s) refused) st.3
   step (advance given (Ok x)) after left st =
       let passed : advance_check s w ≡ Ok tt = sym (st.1 ∙ ap (λ g. advance_check s g) st.0) in
       let phase-open = unrefused (is_after s.phase) WrongPhase (and_then_left (refuse_if (is_after s.phase) WrongPhase) _ passed) in
       let lasts = day_left s w (and_then_right (refuse_if (is_after s.phase) WrongPhase) _ passed) in
       holds_at m terms _ _ after _ left
-      (st.2 ∙ ap (λ g. (advanced m s g).1) st.0 ∙ ap (λ v. state_if v (next_phase m s w s.phase) s) passed)
+      (st.2 ∙ ap (λ g. (advanced m s g).1) st.0 ∙ ap (λ v. if_passed v (next_phase m s w s.phase) s) passed)
       st.3
       (by_phase given s.phase refl phase-open lasts)
   step (advance given (Err x)) after left st =
       still (advance given (Err x)) after left (record { no_advance = refl; no_close = refl; no_message = λ a. refl })
-      (st.2 ∙ ap (λ v. state_if v (next_phase m s given s.phase) s) (sym st.1)) st.3
+      (st.2 ∙ ap (λ v. if_passed v (next_phase m s given s.phase) s) (sym st.1)) st.3
   step (close form given count (Ok x)) after left st =
       let lent = st.0 in
       let own = st.1.0 in
       let passed : close_check s given (length lent) form ≡ Ok tt = passed_by (close_check s given (length lent) form) x _ st.1.2 in
       let p = came_after (length lent) form (sym (ap (λ g. close_check s g (length lent) form) own) ∙ passed) in
       holds_at m terms _ _ after _ left
-      (st.1.3 ∙ ap (λ v. state_if v (day_closed s (balance_today s given form)) s) passed ∙ ap (λ g. day_closed s (balance_today s g form)) own)
-      (st.1.4 ∙ ap (λ v. (lent_if v (record { sheet = replicate (length given) 0; rows = day_rows m s given form }) (record { sheet = given; rows = lent })).sheet) passed)
+      (st.1.3 ∙ ap (λ v. if_passed v (day_closed s (balance_today s given form)) s) passed ∙ ap (λ g. day_closed s (balance_today s g form)) own)
+      (st.1.4 ∙ ap (λ v. (if_passed {B = Lent} v (record { sheet = replicate (length given) 0; rows = day_rows m s given form }) (record { sheet = given; rows = lent })).sheet) passed)
       (record { keeps = keeps_close m s w form j given count x h.keeps p (replicate (length given) 0) (length-replicate {A = ℕ} (length given) 0 ∙ ap length own); terms_same = closed_terms s (balance_today s w form) ∙ h.terms_same })
   step (close form given count (Err x)) after left st =
       let lent = st.0 in
       let refused : close_check s given (length lent) form ≡ Err x = refused_by (close_check s given (length lent) form) x _ st.1.2 in
       still (close form given count (Err x)) after left (record { no_advance = refl; no_close = refl; no_message = λ a. refl })
-      (st.1.3 ∙ ap (λ v. state_if v (day_closed s (balance_today s given form)) s) refused) st.1.4
+      (st.1.3 ∙ ap (λ v. if_passed v (day_closed s (balance_today s given form)) s) refused) st.1.4
   step (position given group quarter answer) after left st =
       still (position given group quarter answer) after left (record { no_advance = refl; no_close = refl; no_message = λ a. refl }) st.2.book st.2.sheet
   step (trade given from to quarter answer) after left st =
@@ -131,7 +131,7 @@ module _ (m : Meaning) (terms : Terms) (j : Journal) (s : State) (w : List ℕ) 
       let passed : check ≡ Ok tt = passed_by check x _ st.1.2 in
       let p = came_after (length lent) form (sym (ap (λ g. close_check s g (length lent) form) own) ∙ passed) in
       value_by check x _ st.1.2
-      ∙ ap (λ v. (lent_if v (record { sheet = replicate (length given) 0; rows = day_rows m s given form }) (record { sheet = given; rows = lent })).rows) passed
+      ∙ ap (λ v. (if_passed {B = Lent} v (record { sheet = replicate (length given) 0; rows = day_rows m s given form }) (record { sheet = given; rows = lent })).rows) passed
       ∙ ap (λ g. day_rows m s g form) own ∙ rows_right m s w j h.keeps form given count x p
   right_own (close form given count (Err x)) after left st = tt
   right_own (position given group quarter (Ok x)) after left st =

@@ -5,7 +5,7 @@ use Rattle.book.specs.Closes.{closed_by}
 use Rattle.book.specs.Cuts.{advanced}
 use Rattle.book.specs.Messages.{submitted}
 use Rattle.book.specs.Opens.{opened_by}
-use Rattle.book.specs.Queries.{answer_if, position_answer, trade_answer, standing_answer, total_answer}
+use Rattle.book.specs.Queries.{answer_if, if_passed, position_answer, trade_answer, standing_answer, total_answer}
 use Rattle.book.specs.Rows.{Row}
 use Rattle.book.specs.States.{State}
 use Rattle.journal.specs.Journals.{Entry, submit, advance, close, position, trade, standing, total, Journal}
@@ -16,12 +16,7 @@ abbrev pub Own : {A : Type 0} → Result A Fault → List ℕ → List ℕ → T
 Own (Ok _) given sheet = given ≡ sheet
 Own (Err _) given sheet = Unit {0}
 
--- and only an accepted one has changed it
-abbrev pub left_if : {A : Type 0} → Result A Fault → List ℕ → List ℕ → List ℕ
-left_if (Ok _) after before = after
-left_if (Err _) after before = before
-
--- book and sheet before an entry, and after it
+-- Book and sheet before an entry, and after it: only an accepted call has changed the sheet.
 pub record Step (s : State) (w : List ℕ) (after : State) (left : List ℕ) : Type 0 where
   pub book : after ≡ s
   pub sheet : left ≡ w
@@ -29,14 +24,14 @@ pub record Step (s : State) (w : List ℕ) (after : State) (left : List ℕ) : T
 abbrev pub Stepped : Meaning → Entry → State → List ℕ → State → List ℕ → Type 0
 Stepped m (submit form given answer) s w after left =
     let o = submitted s given form in
-    Own answer given w × (answer ≡ o.0) × (after ≡ o.1) × (left ≡ left_if answer o.2 w)
+    Own answer given w × (answer ≡ o.0) × (after ≡ o.1) × (left ≡ if_passed answer o.2 w)
 Stepped m (advance given answer) s w after left =
     let o = advanced m s given in
     Own answer given w × (answer ≡ o.0) × (after ≡ o.1) × (left ≡ w)
 Stepped m (close form given rows answer) s w after left =
     (lent : List Row)
     × (let o = closed_by m s (record { sheet = given; rows = lent }) form in
-    Own answer given w × (length lent ≡ rows) × (answer ≡ answer_if o.0 o.2.rows) × (after ≡ o.1) × (left ≡ left_if answer o.2.sheet w))
+    Own answer given w × (length lent ≡ rows) × (answer ≡ answer_if o.0 o.2.rows) × (after ≡ o.1) × (left ≡ if_passed answer o.2.sheet w))
 Stepped m (position given group quarter answer) s w after left = Own answer given w × (answer ≡ position_answer s given group quarter) × Step s w after left
 Stepped m (trade given from to quarter answer) s w after left = Own answer given w × (answer ≡ trade_answer s given from to quarter) × Step s w after left
 Stepped m (standing group day answer) s w after left = (answer ≡ standing_answer m s group day) × Step s w after left

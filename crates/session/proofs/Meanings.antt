@@ -4,10 +4,10 @@ use Rattle.forms.specs.declared.fault.Fault.{Fault}
 use Rattle.forms.specs.Checks.{Verdict}
 use Rattle.stage.specs.declared.any_rule.AnyRule.{AnyRule}
 use Rattle.stage.specs.Asked.{meaning_of}
+use Rattle.book.specs.Queries.{if_passed}
 use Rattle.book.specs.Calls.{Place, submits, closes}
 use Rattle.book.specs.Closes.{Lent}
-use Rattle.book.specs.Cuts.{sheet_if}
-use Rattle.book.specs.Opens.{opened_by, open_check, place_if, new_book}
+use Rattle.book.specs.Opens.{opened_by, open_check, new_book}
 use Rattle.book.specs.States.{State}
 use Rattle.forms.specs.Openings.{terms_of}
 use Rattle.book.specs.Rows.{Row, no_row}
@@ -38,7 +38,7 @@ module _ (rule : Option Meaning) where
 abbrev meant : Verdict × Place AnyRule × List ℕ → Verdict × Place Meaning × List ℕ
 meant o = (o.0, by_meaning o.1, o.2)
 
-meant_place : (v : Verdict) (chosen : AnyRule) (new : State) (p : Place AnyRule) → by_meaning (place_if v chosen new p) ≡ place_if v (meaning_of chosen) new (by_meaning p)
+meant_place : (v : Verdict) (chosen : AnyRule) (new : State) (p : Place AnyRule) → by_meaning (if_passed v (Some (chosen, new)) p) ≡ if_passed v (Some (meaning_of chosen, new)) (by_meaning p)
 meant_place (Ok _) chosen new p = refl
 meant_place (Err e) chosen new p = refl
 
@@ -46,7 +46,7 @@ meant_open : (p : Place AnyRule) (chosen : AnyRule) (body sheet : List ℕ) → 
 meant_open p chosen body sheet =
     let v = open_check body sheet in
     let place = meant_place v chosen (new_book (terms_of body)) p in
-    λ j. (v, place j, sheet_if v (replicate (length sheet) 0) sheet)
+    λ j. (v, place j, if_passed v (replicate (length sheet) 0) sheet)
 
 -- an opening
 pub told_open : (most : ℕ) (p : Place AnyRule) (chosen : AnyRule) (s : SessionState) (body sheet : List ℕ) (after : Place AnyRule) (left : List ℕ) → s.place ≡ by_meaning p
