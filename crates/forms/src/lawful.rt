@@ -6,6 +6,7 @@ ghost use Rattle.forms.specs.Figures.{figures_of, rates_of};
 ghost use Rattle.forms.specs.Openings.{OpeningFormed, groups_told, rows_told, powers_within, plants_metered, rates_within, no_fall, group_check, row_check, rows_check};
 
 use crate::bounds::{FEE_BOUND, POWER_BOUND, RATE_BOUND};
+use crate::checks::in_order;
 use crate::fault::Fault;
 use crate::group::{Group, Limits, TariffRow};
 use crate::opening::{GROUP_BYTES, OPENING_HEADER, OpeningReader};
@@ -76,20 +77,14 @@ impl<'a> OpeningReader<'a> {
         requires { OpeningFormed self.now.bytes.now }
         ensures { result ≡ each_of (group_check self.now.bytes.now) (groups_told self.now.bytes.now) }
     {
-        for a in 0..self.groups() as usize {
-            self.check_group(a)?;
-        }
-        Ok(())
+        in_order(self.groups(), |a| self.check_group(a as usize))
     }
 
     fn check_tariff(&self) -> Result<(), Fault>
         requires { OpeningFormed self.now.bytes.now }
         ensures { result ≡ each_of (row_check self.now.bytes.now (groups_told self.now.bytes.now)) (rows_told self.now.bytes.now) }
     {
-        for r in 0..self.rows() as usize {
-            self.check_row(r)?;
-        }
-        Ok(())
+        in_order(self.rows(), |r| self.check_row(r as usize))
     }
 
     /// Refuses a form with an unlawful group row, or else with an unlawful tariff row.
