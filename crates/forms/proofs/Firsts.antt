@@ -17,6 +17,15 @@ pub each_all : (f : ℕ → Verdict) (n : ℕ) → ((k : ℕ) → k < n → f k 
 each_all f zero h = each_none f
 each_all f (suc n) h = rw (← add-one n) (each_more f n (each_all f n (λ k l. h k (omega arith))) (h n (omega arith)))
 
+and_then_assoc : (r q p : Verdict) → and_then (and_then r q) p ≡ and_then r (and_then q p)
+and_then_assoc (Ok _) q p = refl
+and_then_assoc (Err e) q p = refl
+
+-- two more
+pub each_two : (f : ℕ → Verdict) (n : ℕ) → each_of f (n + 2) ≡ and_then (each_of f n) (and_then (f n) (f (n + 1)))
+unfolding each_of
+each_two f n = let e : n + 2 ≡ suc (suc n) = omega arith in rw (e, add-one n) (and_then_assoc (each_of f n) (f n) (f (suc n)))
+
 pub each_err : (f : ℕ → Verdict) (n i : ℕ) (e : Fault) → i < n → each_of f i ≡ Ok tt → f i ≡ Err e → each_of f n ≡ Err e
 unfolding each_of
 each_err f zero i e l h b = absurd (omega arith)

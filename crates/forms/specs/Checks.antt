@@ -6,6 +6,11 @@ use Rattle.forms.specs.declared.fault.Fault.{Fault}
 abbrev pub Verdict : Type 0
 Verdict = Result (Unit {0}) Fault
 
+-- whether an answer is a fault, and which
+abbrev pub verdict : {T : Type 0} → Result T Fault → Verdict
+verdict (Ok _) = Ok tt
+verdict (Err e) = Err e
+
 abbrev pub and_then : Verdict → Verdict → Verdict
 and_then (Ok _) r = r
 and_then (Err e) r = Err e

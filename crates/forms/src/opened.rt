@@ -3,11 +3,11 @@
 ghost use Rattle.std.specs.Prelude.{◌≡◌, ℕ, ◌<◌, ◌≤◌, map, length, get_or, take, Ok, slice_index_or};
 ghost use Rattle.forms.specs.Bounds.{fee_bound, rate_bound};
 ghost use Rattle.forms.specs.Figures.{GroupFigures, figures_of, rates_of};
-ghost use Rattle.forms.specs.Openings.{OpeningFormed, groups_told, rows_told, sizes_check, rows_check, terms_of, terms_in};
+ghost use Rattle.forms.specs.Openings.{groups_told, rows_told, rows_check, terms_of, terms_in};
 
 use crate::bounds::{MOST_GROUPS, MOST_ROWS};
 use crate::group::{Group, Limits, TariffRow};
-use crate::opening::OpeningReader;
+use crate::opening_form::OpeningForm;
 use crate::terms::Opening;
 
 const NO_GROUP: Group = Group {
@@ -23,10 +23,9 @@ const NO_GROUP: Group = Group {
 
 const NO_ROW: TariffRow = TariffRow { fee: 0, rate: 0 };
 
-impl<'a> OpeningReader<'a> {
+impl<'a> OpeningForm<'a> {
     // the groups of the form, and blank ones behind them
     fn all_groups(&self) -> [Group; MOST_GROUPS]
-        requires { OpeningFormed self.now.bytes.now }
         ensures { map figures_of (take (groups_told self.now.bytes.now) result) ≡ (terms_of self.now.bytes.now).groups }
     {
         let mut groups = [NO_GROUP; MOST_GROUPS];
@@ -38,8 +37,7 @@ impl<'a> OpeningReader<'a> {
 
     // the tariff rows of the form, and blank ones behind them
     fn all_rows(&self) -> [TariffRow; MOST_ROWS]
-        requires formed { OpeningFormed self.now.bytes.now }
-        requires lawful { rows_check self.now.bytes.now ≡ Ok tt }
+        requires { rows_check self.now.bytes.now ≡ Ok tt }
         ensures value { map rates_of (take (rows_told self.now.bytes.now) result) ≡ (terms_of self.now.bytes.now).tariff }
         ensures fees { (k : ℕ) → (get_or result k (record { fee = 0; rate = 0 })).fee ≤ fee_bound }
         ensures rates { (k : ℕ) → (get_or result k (record { fee = 0; rate = 0 })).rate ≤ rate_bound }
@@ -53,8 +51,7 @@ impl<'a> OpeningReader<'a> {
 
     /// The terms that a lawful form gives.
     pub fn opening(&self) -> Opening
-        requires sizes { sizes_check self.now.bytes.now ≡ Ok tt }
-        requires rows { rows_check self.now.bytes.now ≡ Ok tt }
+        requires { rows_check self.now.bytes.now ≡ Ok tt }
         ensures { terms_in result ≡ terms_of self.now.bytes.now }
     {
         Opening {

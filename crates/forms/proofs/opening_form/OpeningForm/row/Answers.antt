@@ -1,6 +1,6 @@
 use Rattle.std.proofs.Common.{rules}
 use Rattle.forms.specs.Openings.{row_at}
-use Rattle.forms.proofs.opening.OpeningReader.row.Goals as goal
+use Rattle.forms.proofs.opening_form.OpeningForm.row.Goals as goal
 
 pub returns : goal.returns
 unfolding row_at

@@ -3,7 +3,7 @@ use Rattle.std.proofs.lemmas.List.{length-set}
 use Rattle.forms.specs.Figures.{figures_of}
 use Rattle.forms.specs.Openings.{group_at, groups_told, terms_of}
 use Rattle.forms.proofs.Writes.{written_more, written_all}
-use Rattle.forms.proofs.opening.OpeningReader.all_groups.Goals as goal
+use Rattle.forms.proofs.opening_form.OpeningForm.all_groups.Goals as goal
 
 pub loop-a-preserved : goal.loop-a-preserved
 loop-a-preserved c = (

@@ -2,7 +2,7 @@ use Rattle.std.proofs.Common.{◌+◌, ◌∙◌, arith, w32, SFits, rules}
 use Rattle.std.proofs.lemmas.Nat.{mul-add-lt}
 use Rattle.std.proofs.lemmas.Int.{to_z-of_z}
 use Rattle.forms.specs.Closings.{closing_value}
-use Rattle.forms.proofs.closing.ClosingReader.value.Goals as goal
+use Rattle.forms.proofs.closing_form.ClosingForm.value.Goals as goal
 
 pub signed32_at-requires : goal.signed32_at-requires
 signed32_at-requires c =

@@ -2,18 +2,16 @@ use Rattle.std.proofs.Common.{◌≡◌, ◌≤◌, map, length, take, ap, ◌�
 use Rattle.forms.specs.Figures.{figures_of, rates_of}
 use Rattle.forms.specs.Openings.{rows_told, terms_in}
 use Rattle.forms.proofs.OpeningLaws.{fees_held, rates_held}
-use Rattle.forms.proofs.TermLaws.{opening_formed}
-use Rattle.forms.proofs.opening.OpeningReader.opening.Goals as goal
+use Rattle.forms.proofs.opening_form.OpeningForm.opening.Goals as goal
 
 pub invariant_of-result : goal.invariant_of-result
 invariant_of-result c =
     let s = c.args.self.now.bytes.now in
-    let f = opening_formed s c.requires.sizes in
     let xs = c.all_rows.result in
     let long : length xs ≡ 10 = search rules in
     let room : rows_told s ≤ length xs = omega arith in
-    let fees = fees_held s c.requires.rows xs (record { fee = 0; rate = 0 }) room c.all_rows.ensures.value in
-    let rates = rates_held s c.requires.rows xs (record { fee = 0; rate = 0 }) room c.all_rows.ensures.value in
+    let fees = fees_held s c.requires xs (record { fee = 0; rate = 0 }) room c.all_rows.ensures.value in
+    let rates = rates_held s c.requires xs (record { fee = 0; rate = 0 }) room c.all_rows.ensures.value in
     search rules
 
 pub returns : goal.returns

@@ -3,7 +3,7 @@ use Rattle.std.specs.List.{range_with_len}
 use Rattle.forms.specs.Bounds.{fee_bound, rate_bound}
 use Rattle.forms.specs.Figures.{rates_of}
 use Rattle.forms.specs.Openings.{groups_told, row_at}
-use Rattle.forms.proofs.opening.OpeningReader.all_rows.Given as goal
+use Rattle.forms.proofs.opening_form.OpeningForm.all_rows.Given as goal
 
 abbrev pub invariant-loop-r : goal.invariant-loop-r
 invariant-loop-r l =
