@@ -1,6 +1,6 @@
-use Rattle.std.proofs.Common.{sym, refl}
+use Rattle.std.proofs.Common.{sym, ◌∙◌}
 use Rattle.forms.proofs.OpeningLaws.{count_in}
 use Rattle.forms.proofs.terms.Opening.groups.Goals as goal
 
-pub returns : goal.returns
-returns c = record { value = refl; told = sym (count_in c.args.self.now) }
+pub returns-clause-told : goal.returns-clause-told
+returns-clause-told c = c.count.ensures ∙ sym (count_in c.args.self.now)
