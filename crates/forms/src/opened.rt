@@ -25,6 +25,7 @@ impl<'a> OpeningForm<'a> {
 
 impl Opening {
     /// How many groups there are.
+    #[tactic(auto, using(crate::proofs::OpeningLaws::count_in))]
     pub fn groups(&self) -> u8
         ensures value { result ≡ self.now.groups.count }
         ensures told { result ≡ length (terms_in self.now).groups }

@@ -31,6 +31,7 @@ impl<'a> OpeningForm<'a> {
     }
 
     /// What the form says of group `a`.
+    #[tactic(auto, unfolding(crate::specs::Openings::group_at))]
     pub fn group(&self, a: usize) -> Group
         requires { a < groups_told self.now.bytes.now }
         ensures { figures_of result ≡ group_at self.now.bytes.now a }
@@ -49,6 +50,7 @@ impl<'a> OpeningForm<'a> {
     }
 
     /// What the form says in tariff row `r`.
+    #[tactic(auto, unfolding(crate::specs::Openings::row_at))]
     pub fn row(&self, r: usize) -> TariffRow
         requires { r < rows_told self.now.bytes.now }
         ensures { rates_of result ≡ row_at self.now.bytes.now (groups_told self.now.bytes.now) r }
