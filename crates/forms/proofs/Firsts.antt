@@ -2,7 +2,7 @@
 use Rattle.std.proofs.Common.{◌≡◌, ℕ, zero, suc, ◌+◌, ◌<◌, Bool, true, false, not, Ok, Err, sym, refl, subst, inl, inr, add-one, arith, MatchResult}
 use Rattle.std.proofs.lemmas.Bool.{cases_order, not-false}
 use Rattle.forms.specs.declared.fault.Fault.{Fault}
-use Rattle.forms.specs.Checks.{Verdict, and_then, refuse_if, each_of, Earliest, EarliestAnswers}
+use Rattle.forms.specs.Checks.{Verdict, and_then, refuse_if, each_of, Answers, InOrder, Earliest, EarliestAnswers}
 
 pub each_none : (f : ℕ → Verdict) → each_of f 0 ≡ Ok tt
 unfolding each_of
@@ -11,6 +11,20 @@ each_none f = refl
 pub each_more : (f : ℕ → Verdict) (i : ℕ) → each_of f i ≡ Ok tt → f i ≡ Ok tt → each_of f (i + 1) ≡ Ok tt
 unfolding each_of
 each_more f i h e = rw (add-one i) (rw h e)
+
+-- all pass where each does
+pub each_all : (f : ℕ → Verdict) (n : ℕ) → ((k : ℕ) → k < n → f k ≡ Ok tt) → each_of f n ≡ Ok tt
+each_all f zero h = each_none f
+each_all f (suc n) h = rw (← add-one n) (each_more f n (each_all f n (λ k l. h k (omega arith))) (h n (omega arith)))
+
+and_then_assoc : (r q p : Verdict) → and_then (and_then r q) p ≡ and_then r (and_then q p)
+and_then_assoc (Ok _) q p = refl
+and_then_assoc (Err e) q p = refl
+
+-- two more
+pub each_two : (f : ℕ → Verdict) (n : ℕ) → each_of f (n + 2) ≡ and_then (each_of f n) (and_then (f n) (f (n + 1)))
+unfolding each_of
+each_two f n = let e : n + 2 ≡ suc (suc n) = omega arith in rw (e, add-one n) (and_then_assoc (each_of f n) (f n) (f (suc n)))
 
 pub each_err : (f : ℕ → Verdict) (n i : ℕ) (e : Fault) → i < n → each_of f i ≡ Ok tt → f i ≡ Err e → each_of f n ≡ Err e
 unfolding each_of
@@ -27,6 +41,17 @@ each_err f (suc n) i e l h b =
 -- the exit: what the check of i refused is what all answer
 pub each_exit : (f : ℕ → Verdict) (n i : ℕ) (e : Fault) → i < n → each_of f i ≡ Ok tt → Err e ≡ f i → Err e ≡ each_of f n
 each_exit f n i e l h b = sym (each_err f n i e l h (sym b))
+
+answers_each : (f : ℕ → Verdict) (n : ℕ) (P : ℕ → Verdict → Type 0) (r : Verdict) → Answers P n r
+    → ((i : ℕ) (v : Verdict) → i < n → P i v → v ≡ f i) → r ≡ each_of f n
+answers_each f n P (Ok _) p h = sym (each_all f n (λ k l. sym (h k (Ok tt) l (p k l))))
+answers_each f n P (Err e) (i, l, b, p) h =
+    each_exit f n i e l (each_all f i (λ k m. sym (h k (Ok tt) (omega arith) (p k m)))) (h i (Err e) l b)
+
+-- what checks in order answer, where each may answer nothing but what f says
+pub each_in_order : (f : ℕ → Verdict) (n : ℕ) {P : ℕ → Verdict → Type 0} {r : Verdict} → InOrder P n r
+    → ((i : ℕ) (v : Verdict) → i < n → P i v → v ≡ f i) → r ≡ each_of f n
+each_in_order f n {P} {r} p h = answers_each f n P r p.answers h
 
 abbrev NoneOf : (ℕ → Verdict) → ℕ → Type 0
 NoneOf f n = (k : ℕ) → k < n → f k ≡ Ok tt
@@ -73,11 +98,11 @@ and_then_left (Err x) q e = e
 
 pub and_then_right : (r q : Verdict) → and_then r q ≡ Ok tt → q ≡ Ok tt
 and_then_right (Ok _) q e = e
-and_then_right (Err x) q e = absurd (let z : ◌≡◌ {A = ℕ} 0 1 = cc in omega arith)
+and_then_right (Err x) q e = cc
 
 -- a check that passed had its test unmet
 pub unrefused : (b : Bool) (e : Fault) → refuse_if b e ≡ Ok tt → b ≡ false
-unrefused true e h = absurd (let z : ◌≡◌ {A = ℕ} 0 1 = cc in omega arith)
+unrefused true e h = cc
 unrefused false e h = refl
 
 pub allowed : (b : Bool) (e : Fault) → refuse_if (not b) e ≡ Ok tt → b ≡ true

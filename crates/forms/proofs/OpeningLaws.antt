@@ -1,50 +1,71 @@
 -- What the values of an opening say of its terms.
-use Rattle.std.proofs.Common.{◌≡◌, ℕ, ◌<◌, ◌≤◌, List, map, length, get_or, take, Ok, sym, ap, ◌∙◌, arith}
-use Rattle.std.proofs.lemmas.List.{length-map, length-take-le, get_or-map, get_or-take}
+use Rattle.std.proofs.Common.{◌≡◌, ℕ, ◌<◌, ◌≤◌, List, map, length, get_or, take, sym, ap, ◌∙◌, inl, inr, arith}
+use Rattle.std.specs.List.{range_with_len}
+use Rattle.std.proofs.lemmas.Bool.{cases_lt}
+use Rattle.std.proofs.lemmas.List.{length-map, length-take-le, get_or-map, get_or_past, same_lists}
+use Rattle.std.proofs.lemmas.List.FromFn.{length-map-range_with_len, get_or-map-range_with_len}
 use Rattle.forms.specs.declared.group.Group.{Group}
 use Rattle.forms.specs.declared.group.TariffRow.{TariffRow}
 use Rattle.forms.specs.declared.terms.Opening.{Opening}
-use Rattle.forms.specs.Figures.{GroupFigures, RateFigures, figures_of, rates_of}
-use Rattle.forms.specs.Openings.{groups_told, rows_told, row_at, rows_check, terms_of, terms_in}
-use Rattle.forms.proofs.TermLaws.{get_or_tariff, fees_rise, rates_rise}
+use Rattle.forms.specs.declared.up_to.UpTo.{UpTo}
+use Rattle.forms.specs.Bounds.{fee_bound, rate_bound}
+use Rattle.forms.specs.Figures.{RateFigures, figures_of, rates_of}
+use Rattle.forms.specs.Lawful.{LawfulTerms, terms_from}
+use Rattle.forms.specs.Openings.{groups_told, rows_told, group_at, row_at, terms_of, terms_in}
 
--- the first n elements, each as f says it
-length_front : {X Y : Type 0} (f : X → Y) (n : ℕ) (xs : List X) → n ≤ length xs → length (map f (take n xs)) ≡ n
-length_front f n xs h = length-map (take n xs) f ∙ length-take-le n xs h
+-- items that each say what h says of their place
+pub filled : {X Y : Type 0} (f : X → Y) (h : ℕ → Y) (xs : List X) (n : ℕ) (d : X) → length xs ≡ n
+    → ((i : ℕ) → i < n → f (get_or xs i d) ≡ h i) → map f xs ≡ map h (range_with_len 0 n)
+filled f h xs n d l e =
+    same_lists (map f xs) (map h (range_with_len 0 n)) (length-map xs f ∙ l ∙ sym (length-map-range_with_len h 0 n))
+    (λ k y m. get_or-map f xs k d y (omega (arith, length-map xs f))
+    ∙ e k (omega (arith, length-map xs f, l))
+    ∙ sym (get_or-map-range_with_len h 0 n k k y (omega (arith, length-map xs f, l)) (omega arith)))
 
-pub get_or_front : {X Y : Type 0} (f : X → Y) (n : ℕ) (xs : List X) (k : ℕ) (e : X) (d : Y) → n ≤ length xs → k < n
-    → get_or (map f (take n xs)) k d ≡ f (get_or xs k e)
-get_or_front f n xs k e d h l =
-    get_or-map f (take n xs) k e d (omega (arith, length-take-le n xs h)) ∙ ap f (get_or-take n xs k e l)
+-- groups and tariff rows that say what the form says of each
+pub terms_read : (s : List ℕ) (groups : UpTo Group 16) (tariff : UpTo TariffRow 10) (d : Group) (e : TariffRow)
+    → groups.count ≡ groups_told s → ((a : ℕ) → a < groups_told s → figures_of (get_or (take groups.count groups.places) a d) ≡ group_at s a)
+    → tariff.count ≡ rows_told s → ((r : ℕ) → r < rows_told s → rates_of (get_or (take tariff.count tariff.places) r e) ≡ row_at s (groups_told s) r)
+    → terms_from (take groups.count groups.places) (take tariff.count tariff.places) ≡ terms_of s
+unfolding terms_of
+terms_read s groups tariff d e m g n t =
+    let gs = filled figures_of (group_at s) (take groups.count groups.places) (groups_told s) d (length-take-le _ _ groups.room ∙ m) g in
+    let rs = filled rates_of (row_at s (groups_told s)) (take tariff.count tariff.places) (rows_told s) e (length-take-le _ _ tariff.room ∙ n) t in
+    λ j. record { groups = gs j; tariff = rs j }
+
+-- no row of lawful terms is out of bounds, nor is what stands for a row that is not there
+module _ (groups : List Group) (tariff : List TariffRow) (lawful : LawfulTerms (terms_from groups tariff)) where
+  pub fee_within : (k : ℕ) → (get_or tariff k (record { fee = 0; rate = 0 })).fee ≤ fee_bound
+  fee_within k =
+      elim (cases_lt k (length tariff)) [
+        | inl l ↦ omega (
+          arith,
+          lawful.fees k (record { fee = 0; rate = 0 }) (omega (arith, length-map tariff rates_of)),
+          ap (λ (f : RateFigures). f.fee) (get_or-map rates_of tariff k (record { fee = 0; rate = 0 }) (record { fee = 0; rate = 0 }) l),
+        )
+        | inr g ↦ omega (arith, ap (λ (r : TariffRow). r.fee) (get_or_past tariff k (record { fee = 0; rate = 0 }) g))
+      ]
+
+  pub rate_within : (k : ℕ) → (get_or tariff k (record { fee = 0; rate = 0 })).rate ≤ rate_bound
+  rate_within k =
+      elim (cases_lt k (length tariff)) [
+        | inl l ↦ omega (
+          arith,
+          lawful.rates k (record { fee = 0; rate = 0 }) (omega (arith, length-map tariff rates_of)),
+          ap (λ (f : RateFigures). f.rate) (get_or-map rates_of tariff k (record { fee = 0; rate = 0 }) (record { fee = 0; rate = 0 }) l),
+        )
+        | inr g ↦ omega (arith, ap (λ (r : TariffRow). r.rate) (get_or_past tariff k (record { fee = 0; rate = 0 }) g))
+      ]
 
 module _ (o : Opening) where
-  pub count_in : length (terms_in o).groups ≡ o.count
+  pub lawful_in : LawfulTerms (terms_in o)
   unfolding terms_in
-  count_in = length_front figures_of o.count o.groups (omega arith)
+  lawful_in = o.lawful
 
-  pub rows_in : length (terms_in o).tariff ≡ o.rows
+  pub count_in : length (terms_in o).groups ≡ o.groups.count
   unfolding terms_in
-  rows_in = length_front rates_of o.rows o.tariff (omega arith)
+  count_in = length-map (take o.groups.count o.groups.places) figures_of ∙ length-take-le o.groups.count o.groups.places o.groups.room
 
-  pub group_in : (a : ℕ) (e : Group) (d : GroupFigures) → a < o.count → get_or (terms_in o).groups a d ≡ figures_of (get_or o.groups a e)
+  pub rows_in : length (terms_in o).tariff ≡ o.tariff.count
   unfolding terms_in
-  group_in a e d h = get_or_front figures_of o.count o.groups a e d (omega arith) h
-
-  pub row_in : (r : ℕ) (e : TariffRow) (d : RateFigures) → r < o.rows → get_or (terms_in o).tariff r d ≡ rates_of (get_or o.tariff r e)
-  unfolding terms_in
-  row_in r e d h = get_or_front rates_of o.rows o.tariff r e d (omega arith) h
-
--- an array that holds the tariff of a lawful form
-module _ (s : List ℕ) (passed : rows_check s ≡ Ok tt) (xs : List TariffRow) (e : TariffRow) (room : rows_told s ≤ length xs)
-    (held : map rates_of (take (rows_told s) xs) ≡ (terms_of s).tariff) where
-  row_held : (r : ℕ) → r < rows_told s → rates_of (get_or xs r e) ≡ row_at s (groups_told s) r
-  row_held r h =
-      sym (get_or_front rates_of (rows_told s) xs r e (rates_of e) room h) ∙ ap (λ v. get_or v r (rates_of e)) held ∙ get_or_tariff s r (rates_of e) h
-
-  pub fees_held : (i j : ℕ) → i ≤ j → j < rows_told s → (get_or xs i e).fee ≤ (get_or xs j e).fee
-  fees_held i j h l =
-      omega (arith, fees_rise s passed i j h l, ap (λ (f : RateFigures). f.fee) (row_held i (omega arith)), ap (λ (f : RateFigures). f.fee) (row_held j l))
-
-  pub rates_held : (i j : ℕ) → i ≤ j → j < rows_told s → (get_or xs i e).rate ≤ (get_or xs j e).rate
-  rates_held i j h l =
-      omega (arith, rates_rise s passed i j h l, ap (λ (f : RateFigures). f.rate) (row_held i (omega arith)), ap (λ (f : RateFigures). f.rate) (row_held j l))
+  rows_in = length-map (take o.tariff.count o.tariff.places) rates_of ∙ length-take-le o.tariff.count o.tariff.places o.tariff.room

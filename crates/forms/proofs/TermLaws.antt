@@ -3,11 +3,10 @@ use Rattle.std.proofs.Common.{◌≡◌, ℕ, zero, suc, ◌-◌, ◌<◌, ◌�
 use Rattle.std.proofs.lemmas.List.FromFn.{length-map-range_with_len, get_or-map-range_with_len}
 use Rattle.std.proofs.lemmas.Bool.{cases_eq}
 use Rattle.std.proofs.lemmas.Bool.Decides.{nat_tests}
-use Rattle.forms.specs.declared.group.TariffRow.{TariffRow}
 use Rattle.forms.specs.Bounds.{fee_bound, rate_bound}
 use Rattle.forms.specs.Bytes.{byte}
 use Rattle.forms.specs.Checks.{each_of}
-use Rattle.forms.specs.Figures.{GroupFigures, RateFigures, rates_of}
+use Rattle.forms.specs.Figures.{GroupFigures, RateFigures}
 use Rattle.forms.specs.Openings.{OpeningFormed, sizes_check, rows_check, groups_told, rows_told, group_place, group_at, row_at, lawful_group, lawful_row, no_fall, group_check, row_check, PowersWithin, PlantsMetered, LawfulTerms, terms_of}
 use Rattle.forms.proofs.Firsts.{each_passed, and_then_left, and_then_right, allowed}
 
@@ -77,13 +76,6 @@ module _ (s : List ℕ) (passed : rows_check s ≡ Ok tt) where
   rate_at : (r : ℕ) → r < rows_told s → (row_at s (groups_told s) r).rate ≤ rate_bound
   rate_at r h = let e = row_lawful r h in grind (arith, nat_tests)
 
-  -- the same of a row that says what the form says
-  pub fee_read : (row : TariffRow) (r : ℕ) → r < rows_told s → rates_of row ≡ row_at s (groups_told s) r → row.fee ≤ fee_bound
-  fee_read row r h e = omega (arith, fee_at r h, ap (λ (f : RateFigures). f.fee) e)
-
-  pub rate_read : (row : TariffRow) (r : ℕ) → r < rows_told s → rates_of row ≡ row_at s (groups_told s) r → row.rate ≤ rate_bound
-  rate_read row r h e = omega (arith, rate_at r h, ap (λ (f : RateFigures). f.rate) e)
-
   no_fall_at : (j : ℕ) → suc j < rows_told s → no_fall (row_at s (groups_told s) j) (row_at s (groups_told s) (suc j)) ≡ true
   no_fall_at j h =
       let back : suc j - 1 ≡ j = omega arith in
@@ -102,9 +94,8 @@ module _ (s : List ℕ) (passed : rows_check s ≡ Ok tt) where
   pub rates_rise : (i j : ℕ) → i ≤ j → j < rows_told s → (row_at s (groups_told s) i).rate ≤ (row_at s (groups_told s) j).rate
   rates_rise = rises (λ r. (row_at s (groups_told s) r).rate) (rows_told s) rate_next
 
-pub lawful_terms : (s : List ℕ) → sizes_check s ≡ Ok tt → rows_check s ≡ Ok tt → LawfulTerms (terms_of s)
-lawful_terms s sizes rows =
-    let f = opening_formed s sizes in
+pub formed_terms : (s : List ℕ) → OpeningFormed s → rows_check s ≡ Ok tt → LawfulTerms (terms_of s)
+formed_terms s f rows =
     let m = length_groups s in
     let n = length_tariff s in
     record {
@@ -119,3 +110,6 @@ lawful_terms s sizes rows =
       fees_rise = λ i j d h l. rw (get_or_tariff s i d (omega arith), get_or_tariff s j d (omega arith)) (fees_rise s rows i j h (omega arith));
       rates_rise = λ i j d h l. rw (get_or_tariff s i d (omega arith), get_or_tariff s j d (omega arith)) (rates_rise s rows i j h (omega arith));
     }
+
+pub lawful_terms : (s : List ℕ) → sizes_check s ≡ Ok tt → rows_check s ≡ Ok tt → LawfulTerms (terms_of s)
+lawful_terms s sizes rows = formed_terms s (opening_formed s sizes) rows

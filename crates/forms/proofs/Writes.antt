@@ -2,8 +2,8 @@
 use Rattle.std.proofs.Common.{◌≡◌, ℕ, ◌+◌, ◌<◌, List, [], ◌∷◌, ◌++◌, map, length, get_or, take, set, sym, ap, ◌∙◌, subst, inl, inr, arith}
 use Rattle.std.specs.List.{range_with_len}
 use Rattle.std.proofs.lemmas.List.FromFn.{map-range_with_len_more}
-use Rattle.std.proofs.lemmas.List.{take_more_set, map_push, get_or-set_same, get_or-set_other, get_or-take, get_or_past, length-take}
-use Rattle.std.proofs.lemmas.Bool.{cases_eq, cases_lt}
+use Rattle.std.proofs.lemmas.List.{take_more_set, map_push, get_or-set_same, get_or-set_other}
+use Rattle.std.proofs.lemmas.Bool.{cases_eq}
 
 -- the first i elements say what h says of 0, 1, .., i - 1; one more
 pub written_more : {X Y : Type 0} (f : X → Y) (h : ℕ → Y) (xs : List X) (i : ℕ) (v : X) → i < length xs → f v ≡ h i
@@ -23,11 +23,3 @@ set_keeps P xs i v d l p h k =
 pub written_all : {X Y : Type 0} (f : X → Y) (h : ℕ → Y) (xs : List X) (i n : ℕ) → i ≡ n
     → map f (take i xs) ≡ map h (range_with_len 0 i) → map f (take n xs) ≡ map h (range_with_len 0 n)
 written_all f h xs i n e inv = rw e at inv
-
--- what holds of every element, and of the default, holds of every element of a front
-pub take_keeps : {X : Type 0} (P : X → Type 0) (n : ℕ) (xs : List X) (d : X) → P d → ((k : ℕ) → P (get_or xs k d)) → (k : ℕ) → P (get_or (take n xs) k d)
-take_keeps P n xs d p h k =
-    elim (cases_lt k n) [
-      | inl l ↦ subst P (sym (get_or-take n xs k d l)) (h k)
-      | inr g ↦ subst P (sym (get_or_past (take n xs) k d (omega (arith, length-take n xs)))) p
-    ]

@@ -6,6 +6,11 @@ use Rattle.forms.specs.declared.fault.Fault.{Fault}
 abbrev pub Verdict : Type 0
 Verdict = Result (Unit {0}) Fault
 
+-- whether an answer is a fault, and which
+abbrev pub verdict : {T : Type 0} → Result T Fault → Verdict
+verdict (Ok _) = Ok tt
+verdict (Err e) = Err e
+
 abbrev pub and_then : Verdict → Verdict → Verdict
 and_then (Ok _) r = r
 and_then (Err e) r = Err e
@@ -18,6 +23,14 @@ refuse_if b e = cond b (Err e) (Ok tt)
 unfoldable pub each_of : (ℕ → Verdict) → ℕ → Verdict
 each_of f zero = Ok tt
 each_of f (suc n) = and_then (each_of f n) (f n)
+
+-- r is what checks of 0, 1, .., n - 1 answer in this order, where P says what the check of each may answer.
+abbrev pub Answers : (ℕ → Verdict → Type 0) → ℕ → Verdict → Type 0
+Answers P n (Ok _) = (k : ℕ) → k < n → P k (Ok tt)
+Answers P n (Err e) = (i : ℕ) × (i < n) × P i (Err e) × ((k : ℕ) → k < i → P k (Ok tt))
+
+pub record InOrder (P : ℕ → Verdict → Type 0) (n : ℕ) (r : Verdict) : Type 0 where
+  pub answers : Answers P n r
 
 -- What answers over series i and quarter hours t is the earliest series, and in it the earliest quarter hour.
 abbrev pub Earliest : (ℕ → ℕ → Verdict) → ℕ → ℕ → Verdict → Type 0

@@ -1,12 +1,14 @@
 -- The opening form: a byte g (groups), a byte k (tariff rows), g group rows, k tariff rows. Groups and rows count from 0 here.
-use Rattle.std.specs.Prelude.{◌≡◌, ℕ, ◌+◌, ◌-◌, ◌*◌, ◌<◌, ◌≤◌, Bool, false, not, ◌&&◌, ◌||◌, List, map, length, get_or, take, ◌==◌, nat_le, nat_lt, slice_index_or}
+use Rattle.std.specs.Prelude.{◌≡◌, ℕ, ◌+◌, ◌-◌, ◌*◌, ◌≤◌, Bool, not, ◌&&◌, ◌||◌, List, map, length, take, ◌==◌, nat_le, nat_lt}
 use Rattle.std.specs.List.{range_with_len}
 use Rattle.forms.specs.declared.terms.Opening.{Opening}
 use Rattle.forms.specs.declared.fault.Fault.TheVariants.{ShortForm, WrongSize, WrongLength, UnlawfulGroup, UnlawfulTariff}
 use Rattle.forms.specs.Bounds.{least_groups, most_groups, least_rows, most_rows, power_bound, fee_bound, rate_bound}
 use Rattle.forms.specs.Bytes.{byte, be32}
 use Rattle.forms.specs.Checks.{Verdict, and_then, refuse_if, each_of}
-use Rattle.forms.specs.Figures.{GroupFigures, RateFigures, Terms, figures_of, rates_of}
+use Rattle.forms.specs.Figures.{GroupFigures, RateFigures, Terms}
+use Rattle.forms.specs.Lawful.{terms_from}
+pub use Rattle.forms.specs.Lawful.{PowersWithin, PlantsMetered, LawfulTerms}
 
 -- the bytes of the header, of a group row and of a tariff row
 abbrev pub opening_header : ℕ
@@ -80,17 +82,6 @@ powers_within f =
 abbrev pub plants_metered : GroupFigures → Bool
 plants_metered f = f.metered || (f.prod_max == 0 && f.pump_depth == 0)
 
--- the same two as facts
-pub record PowersWithin (f : GroupFigures) : Type 0 where
-  pub prod_max : f.prod_max ≤ power_bound
-  pub pump_depth : f.pump_depth ≤ power_bound
-  pub ahead : f.limits.ahead ≤ power_bound
-  pub near : f.limits.near ≤ power_bound
-  pub after : f.limits.after ≤ power_bound
-
-abbrev pub PlantsMetered : GroupFigures → Type 0
-PlantsMetered f = f.metered ≡ false → (f.prod_max ≡ 0) × (f.pump_depth ≡ 0)
-
 -- a group row by its flag byte and its figures
 abbrev pub lawful_group : ℕ → GroupFigures → Bool
 lawful_group flag f = nat_le flag 1 && (powers_within f && plants_metered f)
@@ -126,17 +117,4 @@ terms_of s = record {
 
 -- the same as the code holds it
 unfoldable pub terms_in : Opening → Terms
-terms_in o = record { groups = map figures_of (take o.count o.groups); tariff = map rates_of (take o.rows o.tariff) }
-
--- what the terms of a lawful form keep: sizes and figures within their bounds, and a tariff that falls nowhere
-pub record LawfulTerms (t : Terms) : Type 0 where
-  pub groups_least : least_groups ≤ length t.groups
-  pub groups_most : length t.groups ≤ most_groups
-  pub rows_least : least_rows ≤ length t.tariff
-  pub rows_most : length t.tariff ≤ most_rows
-  pub powers : (a : ℕ) (d : GroupFigures) → a < length t.groups → PowersWithin (slice_index_or t.groups a d)
-  pub plants : (a : ℕ) (d : GroupFigures) → a < length t.groups → PlantsMetered (slice_index_or t.groups a d)
-  pub fees : (r : ℕ) (d : RateFigures) → r < length t.tariff → (get_or t.tariff r d).fee ≤ fee_bound
-  pub rates : (r : ℕ) (d : RateFigures) → r < length t.tariff → (get_or t.tariff r d).rate ≤ rate_bound
-  pub fees_rise : (i j : ℕ) (d : RateFigures) → i ≤ j → j < length t.tariff → (get_or t.tariff i d).fee ≤ (get_or t.tariff j d).fee
-  pub rates_rise : (i j : ℕ) (d : RateFigures) → i ≤ j → j < length t.tariff → (get_or t.tariff i d).rate ≤ (get_or t.tariff j d).rate
+terms_in o = terms_from (take o.groups.count o.groups.places) (take o.tariff.count o.tariff.places)

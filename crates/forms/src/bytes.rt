@@ -1,4 +1,5 @@
-//! Numbers out of bytes, high byte first.
+//! Numbers out of bytes, high byte first. `from_be_bytes` belongs to each type of number, so a trait
+//! over these would hold the same three bodies.
 ghost use Rattle.std.specs.Prelude.{◌≡◌, ◌+◌, ◌≤◌, length};
 ghost use Rattle.forms.specs.Bytes.{be16, be32, signed32};
 

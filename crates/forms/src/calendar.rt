@@ -6,6 +6,7 @@ ghost use Rattle.forms.specs.Calendar.{quarters};
 pub const DAYS: u16 = 366;
 
 /// How many quarter hours the day has.
+#[tactic(auto, unfolding(crate::specs::Calendar::quarters))]
 pub fn quarters_of(day: u16) -> u8
     ensures { result ≡ quarters day }
 {

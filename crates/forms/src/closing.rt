@@ -1,10 +1,9 @@
-//! The closing form: sizes, feed-ins, long prices and short prices. Groups, series and quarter
-//! hours count from 0 here; in a fault they count from 1.
-ghost use Rattle.std.specs.Prelude.{◌≡◌, ◌+◌, ◌<◌, OnOk};
-ghost use Rattle.forms.specs.Closings.{ClosingFormed, series_count, closing_sizes, closing_value, feed_in, long_price, short_price, series_check, closing_check};
+//! Bytes that may be a closing form: sizes, feed-ins, long prices and short prices.
+ghost use Rattle.std.specs.Prelude.{◌≡◌, IfOk, OnOk};
+ghost use Rattle.forms.specs.Checks.{verdict};
+ghost use Rattle.forms.specs.Closings.{ClosingFormed, closing_sizes};
 
-use crate::bounds::{POWER_BOUND, PRICE_BOUND};
-use crate::bytes::signed32_at;
+pub use crate::closing_form::ClosingForm;
 use crate::fault::Fault;
 
 /// The length of the header: one byte for the groups, one for the quarter hours.
@@ -16,7 +15,8 @@ pub const VALUE_BYTES: usize = 4;
 /// The series of prices, behind one of feed-ins for each group: long, then short.
 pub const PRICE_SERIES: usize = 2;
 
-/// A closing form in its bytes, for a book's number of groups and a day's number of quarter hours.
+/// Bytes that are to be read as a closing form, for a book's number of groups and a day's number of
+/// quarter hours.
 #[derive(Clone, Copy)]
 pub struct ClosingReader<'a> {
     bytes: &'a [u8],
@@ -56,76 +56,18 @@ impl<'a> ClosingReader<'a> {
         Ok(())
     }
 
-    /// The number of series `i` at quarter hour `t`: feed-ins of the groups, long prices, short prices.
-    pub fn value(&self, i: usize, t: usize) -> i32
-        requires formed { ClosingFormed self.now.groups self.now.quarters self.now.bytes.now }
-        requires within { (i < series_count self.now.groups) × (t < self.now.quarters) }
-        ensures { result ≡ closing_value self.now.quarters self.now.bytes.now i t }
+    /// The form, once its sizes are those of the book and the day, and its length is theirs.
+    pub fn form(&self) -> Result<ClosingForm<'a>, Fault>
+        ensures value { verdict result ≡ closing_sizes self.now.groups self.now.quarters self.now.bytes.now }
+        ensures bytes { IfOk result (λ form. form.bytes.now ≡ self.now.bytes.now) }
+        ensures groups { IfOk result (λ form. form.groups ≡ self.now.groups) }
+        ensures quarters { IfOk result (λ form. form.quarters ≡ self.now.quarters) }
     {
-        signed32_at(
-            self.bytes,
-            CLOSING_HEADER + VALUE_BYTES * (i * self.quarters as usize + t),
-        )
-    }
-
-    /// What group `a` fed in at quarter hour `t`, in kW.
-    pub fn feed_in(&self, a: usize, t: usize) -> i32
-        requires formed { ClosingFormed self.now.groups self.now.quarters self.now.bytes.now }
-        requires within { (a < self.now.groups) × (t < self.now.quarters) }
-        ensures { result ≡ feed_in self.now.quarters self.now.bytes.now a t }
-    {
-        self.value(a, t)
-    }
-
-    /// The long price at quarter hour `t`, in cents per MWh.
-    pub fn long_price(&self, t: usize) -> i32
-        requires formed { ClosingFormed self.now.groups self.now.quarters self.now.bytes.now }
-        requires within { t < self.now.quarters }
-        ensures { result ≡ long_price self.now.groups self.now.quarters self.now.bytes.now t }
-    {
-        self.value(self.groups as usize, t)
-    }
-
-    /// The short price at quarter hour `t`, in cents per MWh.
-    pub fn short_price(&self, t: usize) -> i32
-        requires formed { ClosingFormed self.now.groups self.now.quarters self.now.bytes.now }
-        requires within { t < self.now.quarters }
-        ensures { result ≡ short_price self.now.groups self.now.quarters self.now.bytes.now t }
-    {
-        self.value(self.groups as usize + 1, t)
-    }
-
-    // every quarter hour of one series
-    fn check_series(&self, i: usize) -> Result<(), Fault>
-        requires formed { ClosingFormed self.now.groups self.now.quarters self.now.bytes.now }
-        requires within { i < series_count self.now.groups }
-        ensures { result ≡ series_check self.now.groups self.now.quarters self.now.bytes.now i }
-    {
-        let bound = if i < self.groups as usize {
-            POWER_BOUND
-        } else {
-            PRICE_BOUND
-        };
-        for t in 0..self.quarters as usize {
-            if self.value(i, t).unsigned_abs() > bound {
-                return Err(Fault::OutOfRange {
-                    series: i as u16 + 1,
-                    quarter: t as u16 + 1,
-                });
-            }
-        }
-        Ok(())
-    }
-
-    /// Refuses a form with a feed-in or a price out of range: the earliest series, and in it the
-    /// earliest quarter hour.
-    pub fn check_values(&self) -> Result<(), Fault>
-        requires { ClosingFormed self.now.groups self.now.quarters self.now.bytes.now }
-        ensures { result ≡ closing_check self.now.groups self.now.quarters self.now.bytes.now }
-    {
-        for i in 0..self.groups as usize + PRICE_SERIES {
-            self.check_series(i)?;
-        }
-        Ok(())
+        self.check_sizes()?;
+        Ok(ClosingForm {
+            bytes: self.bytes,
+            groups: self.groups,
+            quarters: self.quarters,
+        })
     }
 }

@@ -61,73 +61,35 @@ pub struct Notice {
     pub quarter: u16,
 }
 
-fn at_book(number: u8) -> Notice
-    ensures { result ≡ record { level = Level.Book; number = number; series = 0; quarter = 0 } }
-{
-    Notice {
-        level: Level::Book,
-        number,
-        series: 0,
-        quarter: 0,
-    }
-}
-
-fn at_message(number: u8) -> Notice
-    ensures { result ≡ record { level = Level.Message; number = number; series = 0; quarter = 0 } }
-{
-    Notice {
-        level: Level::Message,
-        number,
-        series: 0,
-        quarter: 0,
-    }
-}
-
-fn at_series(number: u8, series: u16) -> Notice
-    ensures { result ≡ record { level = Level.Series; number = number; series = series; quarter = 0 } }
-{
-    Notice {
-        level: Level::Series,
-        number,
-        series,
-        quarter: 0,
-    }
-}
-
-fn at_interval(number: u8, series: u16, quarter: u16) -> Notice
-    ensures { result ≡ record { level = Level.Interval; number = number; series = series; quarter = quarter } }
-{
-    Notice {
-        level: Level::Interval,
-        number,
-        series,
-        quarter,
-    }
-}
-
 impl Fault {
     /// The level, number and places of this fault.
     pub fn notice(self) -> Notice
         ensures { result ≡ notice_of self }
     {
-        match self {
-            Fault::ShortForm => at_message(1),
-            Fault::WrongSize => at_message(2),
-            Fault::WrongLength => at_message(3),
-            Fault::WrongPhase => at_book(4),
-            Fault::WrongBuffer => at_book(5),
-            Fault::WrongGroup => at_message(6),
-            Fault::WrongDay => at_message(7),
-            Fault::WrongVersion => at_message(8),
-            Fault::UnlawfulHead { series } => at_series(9, series),
-            Fault::RepeatedHead { series } => at_series(10, series),
-            Fault::MissingSeries => at_message(11),
-            Fault::OutOfRange { series, quarter } => at_interval(12, series, quarter),
-            Fault::UnmeteredForecast { series, quarter } => at_interval(13, series, quarter),
-            Fault::OpposedTrades { series, quarter } => at_interval(14, series, quarter),
-            Fault::GrowingPosition { quarter } => at_interval(15, 0, quarter),
-            Fault::UnlawfulGroup { group } => at_series(16, group),
-            Fault::UnlawfulTariff { place } => at_series(17, place),
+        let (level, number, series, quarter) = match self {
+            Fault::ShortForm => (Level::Message, 1, 0, 0),
+            Fault::WrongSize => (Level::Message, 2, 0, 0),
+            Fault::WrongLength => (Level::Message, 3, 0, 0),
+            Fault::WrongPhase => (Level::Book, 4, 0, 0),
+            Fault::WrongBuffer => (Level::Book, 5, 0, 0),
+            Fault::WrongGroup => (Level::Message, 6, 0, 0),
+            Fault::WrongDay => (Level::Message, 7, 0, 0),
+            Fault::WrongVersion => (Level::Message, 8, 0, 0),
+            Fault::UnlawfulHead { series } => (Level::Series, 9, series, 0),
+            Fault::RepeatedHead { series } => (Level::Series, 10, series, 0),
+            Fault::MissingSeries => (Level::Message, 11, 0, 0),
+            Fault::OutOfRange { series, quarter } => (Level::Interval, 12, series, quarter),
+            Fault::UnmeteredForecast { series, quarter } => (Level::Interval, 13, series, quarter),
+            Fault::OpposedTrades { series, quarter } => (Level::Interval, 14, series, quarter),
+            Fault::GrowingPosition { quarter } => (Level::Interval, 15, 0, quarter),
+            Fault::UnlawfulGroup { group } => (Level::Series, 16, group, 0),
+            Fault::UnlawfulTariff { place } => (Level::Series, 17, place, 0),
+        };
+        Notice {
+            level,
+            number,
+            series,
+            quarter,
         }
     }
 }

@@ -1,7 +1,7 @@
 //! A balance group's figures and the rows of the tariff.
 
 /// The limits on a group's open position, by phase.
-#[derive(Clone, Copy)]
+#[derive(Clone, Copy, Default)]
 pub struct Limits {
     pub ahead: u32,
     pub near: u32,
@@ -9,7 +9,7 @@ pub struct Limits {
 }
 
 /// What the opening form says of a group. Powers are in kW.
-#[derive(Clone, Copy)]
+#[derive(Clone, Copy, Default)]
 pub struct Group {
     pub metered: bool,
     pub prod_max: u32,
@@ -18,7 +18,7 @@ pub struct Group {
 }
 
 /// What a marked day costs at a stage: a fee in cents, and a rate in cents per MWh.
-#[derive(Clone, Copy)]
+#[derive(Clone, Copy, Default)]
 pub struct TariffRow {
     pub fee: u32,
     pub rate: u32,

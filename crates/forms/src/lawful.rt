@@ -3,12 +3,14 @@
 ghost use Rattle.std.specs.Prelude.{◌≡◌, ◌<◌};
 ghost use Rattle.forms.specs.Checks.{each_of};
 ghost use Rattle.forms.specs.Figures.{figures_of, rates_of};
-ghost use Rattle.forms.specs.Openings.{OpeningFormed, groups_told, rows_told, powers_within, plants_metered, rates_within, no_fall, group_check, row_check, rows_check};
+ghost use Rattle.forms.specs.Openings.{groups_told, rows_told, powers_within, plants_metered, rates_within, no_fall, group_check, row_check, rows_check};
 
 use crate::bounds::{FEE_BOUND, POWER_BOUND, RATE_BOUND};
+use crate::checks::in_order;
 use crate::fault::Fault;
 use crate::group::{Group, Limits, TariffRow};
-use crate::opening::{GROUP_BYTES, OPENING_HEADER, OpeningReader};
+use crate::opening::{GROUP_BYTES, OPENING_HEADER};
+use crate::opening_form::OpeningForm;
 
 impl Group {
     // no power is above the bound
@@ -44,9 +46,9 @@ impl TariffRow {
     }
 }
 
-impl<'a> OpeningReader<'a> {
+impl<'a> OpeningForm<'a> {
     fn check_group(&self, a: usize) -> Result<(), Fault>
-        requires { (OpeningFormed self.now.bytes.now) × (a < groups_told self.now.bytes.now) }
+        requires { a < groups_told self.now.bytes.now }
         ensures { result ≡ group_check self.now.bytes.now a }
     {
         let flag = self.bytes[OPENING_HEADER + GROUP_BYTES * a];
@@ -60,7 +62,7 @@ impl<'a> OpeningReader<'a> {
     }
 
     fn check_row(&self, r: usize) -> Result<(), Fault>
-        requires { (OpeningFormed self.now.bytes.now) × (r < rows_told self.now.bytes.now) }
+        requires { r < rows_told self.now.bytes.now }
         ensures { result ≡ row_check self.now.bytes.now (groups_told self.now.bytes.now) r }
     {
         let row = self.row(r);
@@ -73,28 +75,19 @@ impl<'a> OpeningReader<'a> {
     }
 
     fn check_groups(&self) -> Result<(), Fault>
-        requires { OpeningFormed self.now.bytes.now }
         ensures { result ≡ each_of (group_check self.now.bytes.now) (groups_told self.now.bytes.now) }
     {
-        for a in 0..self.groups() as usize {
-            self.check_group(a)?;
-        }
-        Ok(())
+        in_order(self.groups(), |a| self.check_group(a as usize))
     }
 
     fn check_tariff(&self) -> Result<(), Fault>
-        requires { OpeningFormed self.now.bytes.now }
         ensures { result ≡ each_of (row_check self.now.bytes.now (groups_told self.now.bytes.now)) (rows_told self.now.bytes.now) }
     {
-        for r in 0..self.rows() as usize {
-            self.check_row(r)?;
-        }
-        Ok(())
+        in_order(self.rows(), |r| self.check_row(r as usize))
     }
 
     /// Refuses a form with an unlawful group row, or else with an unlawful tariff row.
     pub fn check_rows(&self) -> Result<(), Fault>
-        requires { OpeningFormed self.now.bytes.now }
         ensures { result ≡ rows_check self.now.bytes.now }
     {
         self.check_groups()?;

@@ -1,95 +1,55 @@
 //! From a lawful opening form to its values, and what the values say.
 //! Groups and tariff rows count from 0.
-ghost use Rattle.std.specs.Prelude.{◌≡◌, ℕ, ◌<◌, ◌≤◌, map, length, get_or, take, Ok, slice_index_or};
-ghost use Rattle.forms.specs.Bounds.{fee_bound, rate_bound};
+ghost use Rattle.std.specs.Prelude.{◌≡◌, ℕ, ◌<◌, ◌≤◌, map, length, get_or, Ok, slice_index_or};
+ghost use Rattle.forms.specs.Bounds.{least_groups, most_groups, fee_bound, rate_bound};
 ghost use Rattle.forms.specs.Figures.{GroupFigures, figures_of, rates_of};
-ghost use Rattle.forms.specs.Openings.{OpeningFormed, groups_told, rows_told, sizes_check, rows_check, terms_of, terms_in};
+ghost use Rattle.forms.specs.Openings.{rows_check, terms_of, terms_in};
 
-use crate::bounds::{MOST_GROUPS, MOST_ROWS};
-use crate::group::{Group, Limits, TariffRow};
-use crate::opening::OpeningReader;
+use crate::group::{Group, TariffRow};
+use crate::opening_form::OpeningForm;
 use crate::terms::Opening;
+use crate::up_to::UpTo;
 
-const NO_GROUP: Group = Group {
-    metered: false,
-    prod_max: 0,
-    pump_depth: 0,
-    limits: Limits {
-        ahead: 0,
-        near: 0,
-        after: 0,
-    },
-};
-
-const NO_ROW: TariffRow = TariffRow { fee: 0, rate: 0 };
-
-impl<'a> OpeningReader<'a> {
-    // the groups of the form, and blank ones behind them
-    fn all_groups(&self) -> [Group; MOST_GROUPS]
-        requires { OpeningFormed self.now.bytes.now }
-        ensures { map figures_of (take (groups_told self.now.bytes.now) result) ≡ (terms_of self.now.bytes.now).groups }
-    {
-        let mut groups = [NO_GROUP; MOST_GROUPS];
-        for a in 0..self.groups() as usize {
-            groups[a] = self.group(a);
-        }
-        groups
-    }
-
-    // the tariff rows of the form, and blank ones behind them
-    fn all_rows(&self) -> [TariffRow; MOST_ROWS]
-        requires formed { OpeningFormed self.now.bytes.now }
-        requires lawful { rows_check self.now.bytes.now ≡ Ok tt }
-        ensures value { map rates_of (take (rows_told self.now.bytes.now) result) ≡ (terms_of self.now.bytes.now).tariff }
-        ensures fees { (k : ℕ) → (get_or result k (record { fee = 0; rate = 0 })).fee ≤ fee_bound }
-        ensures rates { (k : ℕ) → (get_or result k (record { fee = 0; rate = 0 })).rate ≤ rate_bound }
-    {
-        let mut tariff = [NO_ROW; MOST_ROWS];
-        for r in 0..self.rows() as usize {
-            tariff[r] = self.row(r);
-        }
-        tariff
-    }
-
+impl<'a> OpeningForm<'a> {
     /// The terms that a lawful form gives.
     pub fn opening(&self) -> Opening
-        requires sizes { sizes_check self.now.bytes.now ≡ Ok tt }
-        requires rows { rows_check self.now.bytes.now ≡ Ok tt }
+        requires { rows_check self.now.bytes.now ≡ Ok tt }
         ensures { terms_in result ≡ terms_of self.now.bytes.now }
     {
         Opening {
-            count: self.groups(),
-            groups: self.all_groups(),
-            rows: self.rows(),
-            tariff: self.all_rows(),
+            groups: UpTo::fill(self.groups(), Group::default(), |a| self.group(a as usize)),
+            tariff: UpTo::fill(self.rows(), TariffRow::default(), |r| self.row(r as usize)),
         }
     }
 }
 
 impl Opening {
     /// How many groups there are.
+    #[tactic(auto, using(crate::proofs::OpeningLaws::count_in))]
     pub fn groups(&self) -> u8
-        ensures value { result ≡ self.now.count }
+        ensures value { result ≡ self.now.groups.count }
         ensures told { result ≡ length (terms_in self.now).groups }
+        ensures some { least_groups ≤ result }
+        ensures few { result ≤ most_groups }
     {
-        self.count
+        self.groups.count()
     }
 
     /// What was said of group `a`.
     pub fn group(&self, a: usize) -> Group
-        requires { a < self.now.count }
+        requires { a < self.now.groups.count }
         ensures { (d : GroupFigures) → figures_of result ≡ slice_index_or (terms_in self.now).groups a d }
     {
-        self.groups[a]
+        self.groups.as_slice()[a]
     }
 
     /// The tariff rows.
     pub fn tariff(&self) -> &[TariffRow]
         ensures told { map rates_of result.now ≡ (terms_in self.now).tariff }
-        ensures rows { length result.now ≡ self.now.rows }
+        ensures rows { length result.now ≡ self.now.tariff.count }
         ensures fees { (k : ℕ) → (get_or result.now k (record { fee = 0; rate = 0 })).fee ≤ fee_bound }
         ensures rates { (k : ℕ) → (get_or result.now k (record { fee = 0; rate = 0 })).rate ≤ rate_bound }
     {
-        &self.tariff[0..self.rows as usize]
+        self.tariff.as_slice()
     }
 }

@@ -27,8 +27,8 @@ pub fn read_rule(form: &[u8]) -> Result<RuleForm, Fault>
         return Err(Fault::WrongLength);
     }
     match (form[0], be16_at(form, 1)) {
-        (1, number) if number >= 1 && number <= DAYS => Ok(RuleForm::Rolling(number)),
-        (2, number) if number >= 1 && number <= DAYS => Ok(RuleForm::Run(number)),
+        (1, days @ 1..=DAYS) => Ok(RuleForm::Rolling(days)),
+        (2, days @ 1..=DAYS) => Ok(RuleForm::Run(days)),
         _ => Err(Fault::UnlawfulTariff { place: 0 }),
     }
 }

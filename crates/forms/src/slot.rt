@@ -1,10 +1,10 @@
 //! What a series is about.
-ghost use Rattle.std.specs.Prelude.{◌≡◌, ◌<◌};
+ghost use Rattle.std.specs.Prelude.{◌≡◌};
 ghost use Rattle.forms.specs.Slots.{slot_of, kind_of, counter_of};
 
 /// A group's series: trades out to another group, trades in from one, or a forecast.
 /// Groups count from 0 here; in the bytes of a head they count from 1.
-#[derive(Clone, Copy)]
+#[derive(Clone, Copy, PartialEq, Eq)]
 pub enum Slot {
     OutTo(u8),
     InFrom(u8),
@@ -27,13 +27,13 @@ impl Slot {
         }
     }
 
-    /// The counter by which a head names it: a group from 1, or 0.
-    pub fn counter(self) -> u8
-        requires { counter_of (slot_of self) < 256 }
+    /// The counter by which a head names it: a group from 1, or 0. A head's byte has none for the last
+    /// group that a slot can name.
+    pub fn counter(self) -> u16
         ensures { result ≡ counter_of (slot_of self) }
     {
         match self {
-            Slot::OutTo(group) | Slot::InFrom(group) => group + 1,
+            Slot::OutTo(group) | Slot::InFrom(group) => u16::from(group) + 1,
             Slot::Cons | Slot::Prod | Slot::Pump => 0,
         }
     }

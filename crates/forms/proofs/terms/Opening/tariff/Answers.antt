@@ -1,17 +1,15 @@
-use Rattle.std.proofs.Common.{◌≤◌, arith, rules}
-use Rattle.forms.specs.Bounds.{fee_bound, rate_bound}
+use Rattle.std.proofs.Common.{map, ap}
+use Rattle.forms.specs.Figures.{rates_of}
 use Rattle.forms.specs.Openings.{terms_in}
-use Rattle.forms.specs.declared.group.TariffRow.{TariffRow}
-use Rattle.forms.proofs.Writes.{take_keeps}
+use Rattle.forms.proofs.OpeningLaws.{fee_within, rate_within}
 use Rattle.forms.proofs.terms.Opening.tariff.Goals as goal
 
-pub returns : goal.returns
+pub returns-clause-told : goal.returns-clause-told
 unfolding terms_in
-returns c =
-    let o = c.args.self.now in
-    record {
-      told = search rules;
-      rows = search rules;
-      fees = take_keeps (λ (r : TariffRow). r.fee ≤ fee_bound) _ o.tariff _ (omega arith) o.fees;
-      rates = take_keeps (λ (r : TariffRow). r.rate ≤ rate_bound) _ o.tariff _ (omega arith) o.rates;
-    }
+returns-clause-told c = ap (map rates_of) c.as_slice.ensures
+
+pub returns-clause-fees : goal.returns-clause-fees
+returns-clause-fees c = rw c.as_slice.ensures (fee_within _ _ c.args.self.now.lawful)
+
+pub returns-clause-rates : goal.returns-clause-rates
+returns-clause-rates c = rw c.as_slice.ensures (rate_within _ _ c.args.self.now.lawful)
