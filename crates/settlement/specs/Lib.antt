@@ -1,4 +1,5 @@
 pub mod Sheets
+pub mod Statements
 pub mod Sums
 pub mod Days
 pub mod Positions

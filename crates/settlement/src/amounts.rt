@@ -1,11 +1,12 @@
 //! Penalties and balance amounts, in whole cents.
 ghost use Rattle.std.specs.Prelude.{◌≡◌, ◌^◌, ◌<◌, ◌≤◌, map, length, ◌+ℤ◌, ◌*ℤ◌, unsigned_abs};
 ghost use Rattle.forms.specs.Figures.{rates_of};
-ghost use Rattle.settlement.specs.Sheets.{words_per_slot, on_sheet, SheetOf};
+ghost use Rattle.settlement.specs.Sheets.{words_per_slot};
+ghost use Rattle.settlement.specs.Statements.{statements};
 ghost use Rattle.settlement.specs.Positions.{net_purchases};
 ghost use Rattle.settlement.specs.Amounts.{row_for, penalty as penalty_for, to_cents, imbalance_cost};
 
-use crate::sheet::Sheet;
+use crate::sheet::WholeSheet;
 use forms::group::TariffRow;
 
 /// 4000 kW over a quarter hour are a MWh.
@@ -59,14 +60,13 @@ fn imbalance_cost(imbalance: i64, long: i32, short: i32) -> i64
     -product(imbalance, price)
 }
 
-impl Sheet<'_, '_> {
+impl WholeSheet<'_, '_> {
     /// What group `a`'s imbalance costs in the quarter hour `t`, in 4000ths of a cent, by its metered
     /// feed-in in kW and the prices in cents per MWh. Below zero it is a credit.
     pub fn quarter_cost(&self, a: usize, t: usize, feed: i32, long: i32, short: i32) -> i64
-        requires sheet { SheetOf self.now.groups self.now.sent.now self.now.words.now }
         requires within { (a < self.now.groups) × (t < words_per_slot) }
         requires lawful { (unsigned_abs feed ≤ 10000000) × ((unsigned_abs long ≤ 1000000) × (unsigned_abs short ≤ 1000000)) }
-        ensures value { result ≡ imbalance_cost (net_purchases (on_sheet self.now.groups self.now.sent.now self.now.words.now) self.now.groups t a +ℤ feed) long short }
+        ensures value { result ≡ imbalance_cost (net_purchases (statements self.now) self.now.groups t a +ℤ feed) long short }
         ensures bound { unsigned_abs result ≤ 68730000000000000 }
     {
         let imbalance = self.sums(a, t).confirmed + i64::from(feed);

@@ -3,9 +3,10 @@ ghost use Rattle.std.specs.Prelude.{◌≡◌, ℕ, ◌+◌, ◌*◌, ◌^◌, �
 ghost use Rattle.forms.specs.Slots.{slot_of, cons};
 ghost use Rattle.settlement.specs.Days.{day_net};
 ghost use Rattle.settlement.specs.Positions.{confirmed, net_purchases, stated_with};
-ghost use Rattle.settlement.specs.Sheets.{words_per_slot, Within, on_sheet, SheetOf};
+ghost use Rattle.settlement.specs.Sheets.{words_per_slot, Within};
+ghost use Rattle.settlement.specs.Statements.{statements};
 
-use crate::sheet::{Sheet, WORDS_PER_SLOT, slot_place};
+use crate::sheet::{WORDS_PER_SLOT, WholeSheet, slot_place};
 use forms::slot::Slot;
 
 /// The trades of a group for each quarter hour, as two sums: what it takes, and what it gives. Only
@@ -31,13 +32,12 @@ impl DayTrades {
     }
 }
 
-impl Sheet<'_, '_> {
+impl WholeSheet<'_, '_> {
     // Adds a slot's words to a day's sums; a slot not sent adds nothing.
     fn add_slot(&self, group: usize, slot: Slot, sums: &mut [u64])
-        requires sheet { SheetOf self.now.groups self.now.sent.now self.now.words.now }
         requires within { (group < self.now.groups) × (Within self.now.groups (slot_of slot)) }
         requires room { (length sums.old ≡ words_per_slot) × (((t : ℕ) → slice_index sums.old t ≤ 2 ^ 40)) }
-        ensures value { (t : ℕ) → t < words_per_slot → slice_index sums.new t ≡ slice_index sums.old t + on_sheet self.now.groups self.now.sent.now self.now.words.now group (slot_of slot) t }
+        ensures value { (t : ℕ) → t < words_per_slot → slice_index sums.new t ≡ slice_index sums.old t + statements self.now group (slot_of slot) t }
         ensures bound { (t : ℕ) → slice_index sums.new t ≤ slice_index sums.old t + 2 ^ 32 }
     {
         let place = slot_place(self.groups, group, slot);
@@ -52,9 +52,8 @@ impl Sheet<'_, '_> {
 
     /// The trades of group `a` as it has stated them itself.
     pub fn stated_trades(&self, a: usize) -> DayTrades
-        requires sheet { SheetOf self.now.groups self.now.sent.now self.now.words.now }
-        requires within { a < self.now.groups }
-        ensures { (t : ℕ) → t < words_per_slot → day_net result.taken result.given t ≡ stated_with (on_sheet self.now.groups self.now.sent.now self.now.words.now) t a self.now.groups }
+        requires { a < self.now.groups }
+        ensures { (t : ℕ) → t < words_per_slot → day_net result.taken result.given t ≡ stated_with (statements self.now) t a self.now.groups }
     {
         let mut taken = [0; WORDS_PER_SLOT];
         let mut given = [0; WORDS_PER_SLOT];
@@ -70,10 +69,9 @@ impl Sheet<'_, '_> {
 
     // Adds the confirmed trade from group `a` to group `b` to a day's sums.
     fn add_trade(&self, a: usize, b: usize, sums: &mut [u64])
-        requires sheet { SheetOf self.now.groups self.now.sent.now self.now.words.now }
         requires within { (a < self.now.groups) × (b < self.now.groups) }
         requires room { (length sums.old ≡ words_per_slot) × (((t : ℕ) → slice_index sums.old t ≤ 2 ^ 40)) }
-        ensures value { (t : ℕ) → t < words_per_slot → slice_index sums.new t ≡ slice_index sums.old t + confirmed (on_sheet self.now.groups self.now.sent.now self.now.words.now) t a b }
+        ensures value { (t : ℕ) → t < words_per_slot → slice_index sums.new t ≡ slice_index sums.old t + confirmed (statements self.now) t a b }
         ensures bound { (t : ℕ) → slice_index sums.new t ≤ slice_index sums.old t + 2 ^ 32 }
     {
         let out = slot_place(self.groups, a, Slot::OutTo(b as u8));
@@ -90,9 +88,8 @@ impl Sheet<'_, '_> {
 
     /// The confirmed trades of group `a`.
     pub fn confirmed_trades(&self, a: usize) -> DayTrades
-        requires sheet { SheetOf self.now.groups self.now.sent.now self.now.words.now }
-        requires within { a < self.now.groups }
-        ensures { (t : ℕ) → t < words_per_slot → day_net result.taken result.given t ≡ net_purchases (on_sheet self.now.groups self.now.sent.now self.now.words.now) self.now.groups t a }
+        requires { a < self.now.groups }
+        ensures { (t : ℕ) → t < words_per_slot → day_net result.taken result.given t ≡ net_purchases (statements self.now) self.now.groups t a }
     {
         let mut taken = [0; WORDS_PER_SLOT];
         let mut given = [0; WORDS_PER_SLOT];
@@ -108,9 +105,8 @@ impl Sheet<'_, '_> {
 
     /// The check value of group `a` in a quarter hour, by its trades of the day: less consumption.
     pub fn check_value(&self, trades: &DayTrades, a: usize, t: usize) -> i64
-        requires sheet { SheetOf self.now.groups self.now.sent.now self.now.words.now }
-        requires within { (a < self.now.groups) × (t < words_per_slot) }
-        ensures value { result ≡ day_net trades.now.taken trades.now.given t -ℤ pos (on_sheet self.now.groups self.now.sent.now self.now.words.now a cons t) }
+        requires { (a < self.now.groups) × (t < words_per_slot) }
+        ensures value { result ≡ day_net trades.now.taken trades.now.given t -ℤ pos (statements self.now a cons t) }
         ensures bound { unsigned_abs result ≤ 2 ^ 37 }
     {
         trades.net(t) - i64::from(self.value(a, Slot::Cons, t))

@@ -3,6 +3,7 @@
 
 pub mod amounts;
 pub mod day;
+pub mod held;
 pub mod phase;
 pub mod positions;
 pub mod sheet;

@@ -1,11 +1,12 @@
 //! Open positions and how far they lie beyond a limit.
 ghost use Rattle.std.specs.Prelude.{◌≡◌, ◌*◌, ◌^◌, ◌<◌, ◌≤◌, unsigned_abs};
 ghost use Rattle.forms.specs.Figures.{figures_of};
-ghost use Rattle.settlement.specs.Sheets.{words_per_slot, on_sheet, SheetOf};
+ghost use Rattle.settlement.specs.Sheets.{words_per_slot};
+ghost use Rattle.settlement.specs.Statements.{statements};
 ghost use Rattle.settlement.specs.Positions.{net_purchases, open_position, stated_open, confirmed_open, limit_for, excess, as_far_out, day_excess};
 
 use crate::phase::Phase;
-use crate::sheet::Sheet;
+use crate::sheet::WholeSheet;
 use crate::trades::TradeSums;
 use forms::group::Group;
 use forms::slot::Slot;
@@ -55,14 +56,13 @@ pub fn as_far_out(position: i64, other: i64) -> bool
     position.unsigned_abs() <= other.unsigned_abs()
 }
 
-impl Sheet<'_, '_> {
+impl WholeSheet<'_, '_> {
     /// Group `a`'s stated open position, its confirmed open position and its confirmed net purchases.
     pub fn position(&self, figures: &Group, a: usize, t: usize) -> (i64, i64, i64)
-        requires sheet { SheetOf self.now.groups self.now.sent.now self.now.words.now }
-        requires within { (a < self.now.groups) × (t < words_per_slot) }
-        ensures stated { result.0 ≡ stated_open (on_sheet self.now.groups self.now.sent.now self.now.words.now) (figures_of figures.now) self.now.groups t a }
-        ensures confirmed { result.1 ≡ confirmed_open (on_sheet self.now.groups self.now.sent.now self.now.words.now) (figures_of figures.now) self.now.groups t a }
-        ensures net { result.2 ≡ net_purchases (on_sheet self.now.groups self.now.sent.now self.now.words.now) self.now.groups t a }
+        requires { (a < self.now.groups) × (t < words_per_slot) }
+        ensures stated { result.0 ≡ stated_open (statements self.now) (figures_of figures.now) self.now.groups t a }
+        ensures confirmed { result.1 ≡ confirmed_open (statements self.now) (figures_of figures.now) self.now.groups t a }
+        ensures net { result.2 ≡ net_purchases (statements self.now) self.now.groups t a }
         ensures bound { (unsigned_abs result.0 ≤ 2 ^ 37) × ((unsigned_abs result.1 ≤ 2 ^ 37) × (unsigned_abs result.2 ≤ 2 ^ 37)) }
     {
         let TradeSums { stated, confirmed } = self.sums(a, t);
@@ -76,20 +76,18 @@ impl Sheet<'_, '_> {
 
     /// Group `a`'s open position by its own series.
     pub fn stated_open(&self, figures: &Group, a: usize, t: usize) -> i64
-        requires sheet { SheetOf self.now.groups self.now.sent.now self.now.words.now }
-        requires within { (a < self.now.groups) × (t < words_per_slot) }
-        ensures value { result ≡ stated_open (on_sheet self.now.groups self.now.sent.now self.now.words.now) (figures_of figures.now) self.now.groups t a }
+        requires { (a < self.now.groups) × (t < words_per_slot) }
+        ensures value { result ≡ stated_open (statements self.now) (figures_of figures.now) self.now.groups t a }
         ensures bound { unsigned_abs result ≤ 2 ^ 37 }
     {
         let consumption = i64::from(self.value(a, Slot::Cons, t));
-        open_position(figures, self.stated(a, t) - consumption)
+        open_position(figures, self.sums(a, t).stated - consumption)
     }
 
     /// The sum of the excesses of group `a`'s confirmed open position over the day's `q` quarter hours.
     pub fn day_excess(&self, figures: &Group, a: usize, q: usize) -> u64
-        requires sheet { SheetOf self.now.groups self.now.sent.now self.now.words.now }
-        requires within { (a < self.now.groups) × (q ≤ words_per_slot) }
-        ensures value { result ≡ day_excess (on_sheet self.now.groups self.now.sent.now self.now.words.now) (figures_of figures.now) self.now.groups a q }
+        requires { (a < self.now.groups) × (q ≤ words_per_slot) }
+        ensures value { result ≡ day_excess (statements self.now) (figures_of figures.now) self.now.groups a q }
         ensures bound { result ≤ 2 ^ 37 * q }
     {
         let trades = self.confirmed_trades(a);

@@ -1,7 +1,7 @@
 //! The sheet of words and what stands in it. Groups and quarter hours count from 0.
 ghost use Rattle.std.specs.Prelude.{◌≡◌, ◌*◌, ◌<◌, ◌≤◌};
 ghost use Rattle.forms.specs.Slots.{slot_of};
-ghost use Rattle.settlement.specs.Sheets.{words_per_slot, slots, sheet_size, slot_number, slot_place, Within, SlotsApart, held, on_sheet, SheetOf};
+ghost use Rattle.settlement.specs.Sheets.{words_per_slot, slots, sheet_size, slot_number, slot_place, Within, SlotsApart, SheetOf};
 
 use forms::slot::Slot;
 
@@ -75,29 +75,26 @@ impl<'s, 'w> Sheet<'s, 'w> {
         }
     }
 
-    /// What a group has sent in a slot for the quarter hour `t`, if it has.
-    pub fn held(&self, group: usize, slot: Slot, t: usize) -> Option<u32>
-        requires sheet { SheetOf self.now.groups self.now.sent.now self.now.words.now }
-        requires within { (group < self.now.groups) × ((Within self.now.groups (slot_of slot)) × (t < words_per_slot)) }
-        ensures { result ≡ held self.now.sent.now self.now.words.now (slot_place self.now.groups group (slot_of slot)) t }
+    /// The same sheet, where its flags and words are as many as its groups' slots need.
+    pub fn whole(self) -> WholeSheet<'s, 'w>
+        requires { SheetOf self.groups self.sent.now self.words.now }
+        ensures groups { result.groups ≡ self.entry.groups }
+        ensures sent { result.sent.now ≡ self.entry.sent.now }
+        ensures words { result.words.now ≡ self.entry.words.now }
     {
-        let place = slot_place(self.groups, group, slot);
-        if self.sent[place] {
-            Some(self.words[place * WORDS_PER_SLOT + t])
-        } else {
-            None
+        WholeSheet {
+            groups: self.groups,
+            sent: self.sent,
+            words: self.words,
         }
     }
+}
 
-    /// What a group has sent in a slot for the quarter hour `t`; a slot not sent counts as zero.
-    pub fn value(&self, group: usize, slot: Slot, t: usize) -> u32
-        requires sheet { SheetOf self.now.groups self.now.sent.now self.now.words.now }
-        requires within { (group < self.now.groups) × ((Within self.now.groups (slot_of slot)) × (t < words_per_slot)) }
-        ensures { result ≡ on_sheet self.now.groups self.now.sent.now self.now.words.now group (slot_of slot) t }
-    {
-        let Some(value) = self.held(group, slot, t) else {
-            return 0;
-        };
-        value
-    }
+/// A sheet that has a flag for each slot of its groups, of which there are at most 16, and all their words.
+#[derive(Clone, Copy)]
+pub struct WholeSheet<'s, 'w> {
+    pub(crate) groups: usize,
+    pub(crate) sent: &'s [bool],
+    pub(crate) words: &'w [u32],
+    ghost whole: { SheetOf groups sent.now words.now },
 }

@@ -1,10 +1,11 @@
 //! The trades of a quarter hour between the groups, stated and confirmed.
 ghost use Rattle.std.specs.Prelude.{◌≡◌, ◌*◌, ◌^◌, ◌<◌, ◌≤◌, pos, ◌-ℤ◌, unsigned_abs};
 ghost use Rattle.forms.specs.Slots.{out_to, in_from};
-ghost use Rattle.settlement.specs.Sheets.{words_per_slot, on_sheet, SheetOf};
+ghost use Rattle.settlement.specs.Sheets.{words_per_slot};
+ghost use Rattle.settlement.specs.Statements.{statements};
 ghost use Rattle.settlement.specs.Positions.{confirmed as confirmed-trade, confirmed_with, stated_with};
 
-use crate::sheet::Sheet;
+use crate::sheet::WholeSheet;
 use forms::slot::Slot;
 
 /// A group's trades of a quarter hour, in less out: as it has stated them, and as they are confirmed.
@@ -14,12 +15,11 @@ pub struct TradeSums {
     pub confirmed: i64,
 }
 
-impl Sheet<'_, '_> {
+impl WholeSheet<'_, '_> {
     /// The confirmed trade from group `a` to group `b`: the lower of the two sides' values.
     pub fn trade(&self, a: usize, b: usize, t: usize) -> u32
-        requires sheet { SheetOf self.now.groups self.now.sent.now self.now.words.now }
-        requires within { (a < self.now.groups) × ((b < self.now.groups) × (t < words_per_slot)) }
-        ensures { result ≡ confirmed-trade (on_sheet self.now.groups self.now.sent.now self.now.words.now) t a b }
+        requires { (a < self.now.groups) × ((b < self.now.groups) × (t < words_per_slot)) }
+        ensures { result ≡ confirmed-trade (statements self.now) t a b }
     {
         let out_to = self.value(a, Slot::OutTo(b as u8), t);
         let in_from = self.value(b, Slot::InFrom(a as u8), t);
@@ -28,10 +28,9 @@ impl Sheet<'_, '_> {
 
     // The trades of group `a` with group `b`, in less out. Each of the four words is read once.
     fn between(&self, a: usize, b: usize, t: usize) -> TradeSums
-        requires sheet { SheetOf self.now.groups self.now.sent.now self.now.words.now }
-        requires within { (a < self.now.groups) × ((b < self.now.groups) × (t < words_per_slot)) }
-        ensures stated { result.stated ≡ pos (on_sheet self.now.groups self.now.sent.now self.now.words.now a (in_from b) t) -ℤ pos (on_sheet self.now.groups self.now.sent.now self.now.words.now a (out_to b) t) }
-        ensures confirmed { result.confirmed ≡ pos (confirmed-trade (on_sheet self.now.groups self.now.sent.now self.now.words.now) t b a) -ℤ pos (confirmed-trade (on_sheet self.now.groups self.now.sent.now self.now.words.now) t a b) }
+        requires { (a < self.now.groups) × ((b < self.now.groups) × (t < words_per_slot)) }
+        ensures stated { result.stated ≡ pos (statements self.now a (in_from b) t) -ℤ pos (statements self.now a (out_to b) t) }
+        ensures confirmed { result.confirmed ≡ pos (confirmed-trade (statements self.now) t b a) -ℤ pos (confirmed-trade (statements self.now) t a b) }
         ensures bound { (unsigned_abs result.stated ≤ 2 ^ 32) × (unsigned_abs result.confirmed ≤ 2 ^ 32) }
     {
         let own_out = self.value(a, Slot::OutTo(b as u8), t);
@@ -46,10 +45,9 @@ impl Sheet<'_, '_> {
 
     /// The trades of group `a` with all other groups, in less out, by one pass.
     pub fn sums(&self, a: usize, t: usize) -> TradeSums
-        requires sheet { SheetOf self.now.groups self.now.sent.now self.now.words.now }
-        requires within { (a < self.now.groups) × (t < words_per_slot) }
-        ensures stated { result.stated ≡ stated_with (on_sheet self.now.groups self.now.sent.now self.now.words.now) t a self.now.groups }
-        ensures confirmed { result.confirmed ≡ confirmed_with (on_sheet self.now.groups self.now.sent.now self.now.words.now) t a self.now.groups }
+        requires { (a < self.now.groups) × (t < words_per_slot) }
+        ensures stated { result.stated ≡ stated_with (statements self.now) t a self.now.groups }
+        ensures confirmed { result.confirmed ≡ confirmed_with (statements self.now) t a self.now.groups }
         ensures bound { (unsigned_abs result.stated ≤ 2 ^ 32 * self.now.groups) × (unsigned_abs result.confirmed ≤ 2 ^ 32 * self.now.groups) }
     {
         let mut stated: i64 = 0;
@@ -63,24 +61,5 @@ impl Sheet<'_, '_> {
             confirmed += turn.confirmed;
         }
         TradeSums { stated, confirmed }
-    }
-
-    // The trades of group `a` as it has stated them itself, in less out.
-    pub(crate) fn stated(&self, a: usize, t: usize) -> i64
-        requires sheet { SheetOf self.now.groups self.now.sent.now self.now.words.now }
-        requires within { (a < self.now.groups) × (t < words_per_slot) }
-        ensures value { result ≡ stated_with (on_sheet self.now.groups self.now.sent.now self.now.words.now) t a self.now.groups }
-        ensures bound { unsigned_abs result ≤ 2 ^ 32 * self.now.groups }
-    {
-        let mut sum: i64 = 0;
-        for b in 0..self.groups {
-            if b == a {
-                continue;
-            }
-            let own_in = self.value(a, Slot::InFrom(b as u8), t);
-            let own_out = self.value(a, Slot::OutTo(b as u8), t);
-            sum += i64::from(own_in) - i64::from(own_out);
-        }
-        sum
     }
 }

@@ -1,2 +1,3 @@
 pub mod BenchStage
 mod Flags
+mod Inclusive

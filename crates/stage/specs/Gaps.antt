@@ -1,11 +1,11 @@
 -- Gaps of unmarked days: what a run counts from day to day, and the rule's laws.
-use Rattle.std.specs.Prelude.{◌≡◌, ℕ, ◌+◌, ◌-◌, ◌<◌, ◌≤◌, Bool, true, false, not, ◌&&◌, List, length, nat_le, refl}
+use Rattle.std.specs.Prelude.{◌≡◌, ℕ, ◌+◌, ◌-◌, ◌<◌, ◌≤◌, Bool, true, false, cond, not, ◌&&◌, List, length, nat_le, refl}
 use Rattle.std.proofs.Common.{sym, ap, subst, ◌∙◌, inl, inr, arith}
 use Rattle.std.proofs.lemmas.List.Elements.{length_all_zip}
-use Rattle.std.proofs.lemmas.Bool.{cases_Bool, cases_eq, cases_lt, and_from, and_parts, and_left, and_right, not-true, not_from_true, not_from_false, leb-true, le-leb}
+use Rattle.std.proofs.lemmas.Bool.{cases_Bool, cases_eq, cases_lt, and_from, and_parts, and_left, and_right, not-true, not_from_true, not_from_false, leb-true, le-leb, lt-leb}
 use Rattle.stage.specs.Marked.{on_day, Under}
 use Rattle.stage.specs.Rules.{days_where, some_day, unmarked_after, gap_after, in_run, run_on, run}
-use Rattle.stage.specs.Counts.{one_if, days_none, days_more, days_le, days_under, days_same, days_without, some_from, some_found, none_from, none_at}
+use Rattle.stage.specs.Counts.{one_if, one_le, days_none, days_more, days_le, days_under, days_same, days_without, some_from, some_found, none_from, none_at}
 use Rattle.stage.specs.MarkLists.{on_day_under}
 
 -- the w days that follow day s are unmarked
@@ -63,7 +63,7 @@ pub record Idle (xs : List Bool) (n z : ℕ) : Type 0 where
 pub idle_none : (xs : List Bool) → Idle xs 0 0
 idle_none xs = record { within = omega arith; unmarked = λ d low high. absurd (omega arith); before = λ h. absurd (omega arith) }
 
-pub idle_marked : (xs : List Bool) (n : ℕ) → on_day xs n ≡ true → Idle xs n 0
+idle_marked : (xs : List Bool) (n : ℕ) → on_day xs n ≡ true → Idle xs n 0
 idle_marked xs n e =
     record {
       within = omega arith;
@@ -71,7 +71,7 @@ idle_marked xs n e =
       before = λ h. ap (on_day xs) (let f : n - 0 ≡ n = omega arith in f) ∙ e;
     }
 
-pub idle_more : (xs : List Bool) (i z : ℕ) → on_day xs (i + 1) ≡ false → Idle xs i z → Idle xs (i + 1) (z + 1)
+idle_more : (xs : List Bool) (i z : ℕ) → on_day xs (i + 1) ≡ false → Idle xs i z → Idle xs (i + 1) (z + 1)
 idle_more xs i z e h =
     record {
       within = omega (arith, h.within);
@@ -122,7 +122,7 @@ unfolding run_on
 run_none w xs = days_none (in_run w xs 0)
 
 -- one day more, with fewer than w idle days: it counts if it is marked
-pub run_more : (w : ℕ) (xs : List Bool) (i z : ℕ) → Idle xs (i + 1) z → z < w → run_on w xs (i + 1) ≡ run_on w xs i + one_if (on_day xs (i + 1))
+run_more : (w : ℕ) (xs : List Bool) (i z : ℕ) → Idle xs (i + 1) z → z < w → run_on w xs (i + 1) ≡ run_on w xs i + one_if (on_day xs (i + 1))
 unfolding run_on
 run_more w xs i z h few =
     days_more (in_run w xs (i + 1)) i
@@ -139,7 +139,7 @@ marked_early w xs n z d h many low high e =
     ]
 
 -- with w idle days no day counts
-pub run_ended : (w : ℕ) (xs : List Bool) (n z : ℕ) → Idle xs n z → w ≤ z → run_on w xs n ≡ 0
+run_ended : (w : ℕ) (xs : List Bool) (n z : ℕ) → Idle xs n z → w ≤ z → run_on w xs n ≡ 0
 unfolding run_on in_run
 run_ended w xs n z h many =
     days_without (in_run w xs n) n
@@ -147,6 +147,27 @@ run_ended w xs n z h many =
       | inl e ↦ and_right (on_day xs d) (not (gap_after w xs n d)) (not_from_true (gap_after w xs n d) (marked_early w xs n z d h many low high e))
       | inr e ↦ and_left (on_day xs d) (not (gap_after w xs n d)) e
     ])
+
+-- one day more: n days count and the last z are idle, and n' and z' are so after it
+pub run_turn : (w : ℕ) (xs : List Bool) (i j z z' n n' : ℕ) → j ≡ i + 1 → Idle xs i z → n ≡ run_on w xs i → z' ≡ cond (on_day xs j) 0 (z + 1)
+    → n' ≡ cond (nat_le w z') 0 (n + one_if (on_day xs j)) → (n' ≤ n + 1) × (n' ≡ run_on w xs j) × Idle xs j z'
+run_turn w xs i j z z' n n' next h e f g =
+    let idle : Idle xs (i + 1) z' =
+    elim (cases_Bool (on_day xs j)) [
+      | inl m ↦ subst (Idle xs (i + 1)) (sym (rw m at f)) (idle_marked xs (i + 1) (ap (on_day xs) (sym next) ∙ m))
+      | inr m ↦ subst (Idle xs (i + 1)) (sym (rw m at f)) (idle_more xs i z (ap (on_day xs) (sym next) ∙ m) h)
+    ] in
+    let count : n' ≡ run_on w xs (i + 1) =
+    elim (cases_lt z' w) [
+      | inl l ↦ omega (arith, rw (lt-leb w z' l) at g, run_more w xs i z' idle l, ap (λ d. one_if (on_day xs d)) next)
+      | inr l ↦ (rw (le-leb w z' l) at g) ∙ sym (run_ended w xs (i + 1) z' idle l)
+    ] in
+    let few : n' ≤ n + 1 =
+    elim (cases_lt z' w) [
+      | inl l ↦ omega (arith, rw (lt-leb w z' l) at g, one_le (on_day xs j))
+      | inr l ↦ omega (arith, rw (le-leb w z' l) at g)
+    ] in
+    (few, count ∙ ap (run_on w xs) (sym next), subst (λ d. Idle xs d z') (sym next) idle)
 
 pub run_le : (w : ℕ) (xs : List Bool) → run w xs ≤ length xs
 unfolding run run_on

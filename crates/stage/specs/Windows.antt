@@ -1,7 +1,9 @@
 -- The window of days that a rolling count looks at: a loop over it, and the rule's laws.
-use Rattle.std.specs.Prelude.{◌≡◌, ℕ, ◌+◌, ◌-◌, ◌<◌, ◌≤◌, Bool, true, false, ◌&&◌, List, length, nat_lt, refl}
-use Rattle.std.proofs.Common.{ap, subst, ◌∙◌, arith}
+use Rattle.std.specs.Prelude.{◌≡◌, ℕ, zero, suc, ◌+◌, ◌-◌, ◌<◌, ◌≤◌, Bool, true, false, ◌&&◌, List, length, filter, count_by, nat_lt, refl}
+use Rattle.std.specs.List.{range_with_len}
+use Rattle.std.proofs.Common.{sym, ap, subst, ◌∙◌, add-zero, arith}
 use Rattle.std.proofs.lemmas.List.Elements.{length_all_zip}
+use Rattle.std.proofs.lemmas.List.Sums.{sum_by-cons, length-filter}
 use Rattle.std.proofs.lemmas.Bool.{and_from, and_parts, and_right, lt-ltb, le-ltb}
 use Rattle.stage.specs.Marked.{on_day, Under}
 use Rattle.stage.specs.Rules.{days_where, in_window, rolling}
@@ -21,15 +23,32 @@ unfolding in_window
 inside w xs n d h = and_true (on_day xs d) (nat_lt n (d + w)) (lt-ltb n (d + w) h)
 
 -- before the window no day counts
-pub window_none : (w : ℕ) (xs : List Bool) (n i : ℕ) → i ≤ n - w → days_where (in_window w xs n) i ≡ 0
+window_none : (w : ℕ) (xs : List Bool) (n i : ℕ) → i ≤ n - w → days_where (in_window w xs n) i ≡ 0
 window_none w xs n i h = days_without (in_window w xs n) i (λ d low high. outside w xs n d (omega arith))
 
 -- in the window a day counts if it is marked
-pub window_more : (w : ℕ) (xs : List Bool) (n i : ℕ) → n < i + 1 + w
+window_more : (w : ℕ) (xs : List Bool) (n i : ℕ) → n < i + 1 + w
     → days_where (in_window w xs n) (i + 1) ≡ days_where (in_window w xs n) i + one_if (on_day xs (i + 1))
 window_more w xs n i h =
     days_more (in_window w xs n) i
     ∙ ap (λ b. days_where (in_window w xs n) i + one_if b) (inside w xs n (i + 1) h)
+
+window_counts : (w : ℕ) (xs : List Bool) (n i k : ℕ) → n ≤ i + w
+    → days_where (in_window w xs n) (i + k) ≡ days_where (in_window w xs n) i + count_by (on_day xs) (range_with_len (i + 1) k)
+window_counts w xs n i zero h = omega (arith, ap (days_where (in_window w xs n)) (add-zero i))
+window_counts w xs n i (suc k) h =
+    let on : i + suc k ≡ i + 1 + k = omega arith in
+    let first = sum_by-cons (λ d. one_if (on_day xs d)) (i + 1) (range_with_len (i + 1 + 1) k) in
+    omega (arith, ap (days_where (in_window w xs n)) on, window_counts w xs n (i + 1) k (omega arith), window_more w xs n i (omega arith))
+
+-- what a rolling count is: the marked days of the window
+pub rolling_counts : (w : ℕ) (xs : List Bool) (n : ℕ) → n ≡ length xs → rolling w xs ≡ length (filter (on_day xs) (range_with_len (n - w + 1) (n - (n - w))))
+unfolding rolling
+rolling_counts w xs n e =
+    let i : ℕ = length xs - w in
+    let to_end : i + (length xs - i) ≡ length xs = omega arith in
+    rw e (sym (ap (days_where (in_window w xs (length xs))) to_end) ∙ window_counts w xs (length xs) i (length xs - i) (omega arith)
+    ∙ omega (arith, window_none w xs (length xs) i (omega arith), length-filter (on_day xs) (range_with_len (i + 1) (length xs - i))))
 
 pub rolling_le : (w : ℕ) (xs : List Bool) → rolling w xs ≤ length xs
 unfolding rolling

@@ -1,6 +1,6 @@
 //! The rules that a rule form can ask for.
 ghost use Rattle.std.specs.Prelude.{◌≡◌};
-ghost use Rattle.stage.specs.Asked.{meaning_of, rule_asked, meaning_made};
+ghost use Rattle.stage.specs.Asked.{meaning_of, asked, rule_asked, meaning_made};
 ghost use Rattle.stage.specs.Lawful.{any_bounded, any_monotone};
 
 use crate::marks::Marks;
@@ -32,12 +32,20 @@ impl StageRule for AnyRule {
     }
 }
 
+impl From<RuleForm> for AnyRule {
+    ghost from_gives = { λ form rule. meaning_of rule ≡ asked form };
+
+    fn from(form: RuleForm) -> AnyRule {
+        match form {
+            RuleForm::Rolling(window) => AnyRule::Rolling(Rolling::new(window)),
+            RuleForm::Run(gap) => AnyRule::Run(Run::new(gap)),
+        }
+    }
+}
+
 /// Makes the rule that the rule form asks for.
 pub fn rule(form: &[u8]) -> Result<AnyRule, Fault>
     ensures { meaning_made result ≡ rule_asked form.now }
 {
-    match read_rule(form)? {
-        RuleForm::Rolling(window) => Ok(AnyRule::Rolling(Rolling::new(window))),
-        RuleForm::Run(gap) => Ok(AnyRule::Run(Run::new(gap))),
-    }
+    read_rule(form).map(AnyRule::from)
 }

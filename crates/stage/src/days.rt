@@ -1,8 +1,16 @@
 //! What is asked of marks and done with them. Days count from 1.
-ghost use Rattle.std.specs.Prelude.{◌≡◌, ◌<◌, ◌≤◌, [], ◌∷◌, ◌++◌, length, take};
+ghost use Rattle.std.specs.Prelude.{◌≡◌, ◌/◌, ◌%◌, ◌^◌, ◌<◌, ◌≤◌, [], ◌∷◌, ◌++◌, length, take};
 ghost use Rattle.stage.specs.Marked.{marks_of, on_day};
 
 use crate::marks::Marks;
+
+// Where the mark of a day stands that `before` days come before: its word, and its bit in that word.
+fn place(before: u16) -> (usize, u64)
+    ensures word { result.0 ≡ before / 64 }
+    ensures bit { result.1 ≡ 2 ^ (before % 64) }
+{
+    (usize::from(before / 64), 1 << (before % 64))
+}
 
 impl Marks {
     /// The marks before the first day.
@@ -28,11 +36,10 @@ impl Marks {
         requires { length (marks_of self.old) < 366 }
         ensures { marks_of self.new ≡ marks_of self.old ++ mark ∷ [] }
     {
-        let at = self.days as usize;
-        let bit = 1u64 << (at % 64);
+        let (word, bit) = place(self.days);
         let mut words = self.words;
-        let before = words[at / 64] & (bit - 1);
-        words[at / 64] = if mark { bit | before } else { before };
+        let earlier = words[word] & (bit - 1);
+        words[word] = if mark { earlier | bit } else { earlier };
         *self = Marks {
             words,
             days: self.days + 1,
@@ -46,17 +53,16 @@ impl Marks {
         if day == 0 || day > self.days {
             return false;
         }
-        let at = day - 1;
-        (self.words[at as usize / 64] >> (at % 64)) & 1 == 1
+        let (word, bit) = place(day - 1);
+        self.words[word] & bit != 0
     }
 
     /// The marks up to that day, or all if there are fewer.
     pub fn first(&self, day: u16) -> Marks
         ensures { marks_of result ≡ take day (marks_of self.now) }
     {
-        let words = self.words;
         Marks {
-            words,
+            words: self.words,
             days: self.days.min(day),
         }
     }

@@ -30,12 +30,7 @@ impl StageRule for Rolling {
 
     fn stage(&self, marks: &Marks) -> u16 {
         let last = marks.days();
-        let mut count = 0;
-        for before in last.saturating_sub(self.window)..last {
-            if marks.marked(before + 1) {
-                count += 1;
-            }
-        }
-        count
+        let first = last.saturating_sub(self.window) + 1;
+        (first..=last).filter(|&day| marks.marked(day)).count() as u16
     }
 }

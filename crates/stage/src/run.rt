@@ -31,8 +31,8 @@ impl StageRule for Run {
     fn stage(&self, marks: &Marks) -> u16 {
         let mut count = 0;
         let mut idle = 0;
-        for before in 0..marks.days() {
-            if marks.marked(before + 1) {
+        for day in 1..=marks.days() {
+            if marks.marked(day) {
                 count += 1;
                 idle = 0;
             } else {

@@ -1,7 +1,7 @@
-use Rattle.std.proofs.Common.{◌-◌, ◌/◌, ◌%◌, ◌^◌, eqb, get_or, sym, ap, ◌∙◌, arith}
-use Rattle.std.proofs.lemmas.Nat.{and_mask}
+use Rattle.std.proofs.Common.{sym, ap, ◌∙◌, arith}
 use Rattle.stage.specs.Marked.{marks_of, on_day}
 use Rattle.stage.specs.MarkLists.{length_marks, on_day_bit, on_day_past}
+use Rattle.stage.proofs.Flags.{bit_tested}
 use Rattle.stage.proofs.marks.Marks.marked.Goals as goal
 use Rattle.stage.proofs.marks.Marks.marked.Goals.{then-day-eq0-via-then-day-eq0, then-day-eq0-via-else-day-eq0+then-day-self}
 
@@ -16,6 +16,5 @@ returns-then-day-eq0 c =
 pub returns : goal.returns
 returns c =
     let m = c.args.self.now in
-    let at = c.args.day - 1 in
-    ap (λ v. eqb v 1) (and_mask (get_or m.words (at / 64) 0 / 2 ^ (at % 64)) 1)
-    ∙ sym (on_day_bit m c.args.day c.if-day-eq0.false (omega arith))
+    rw (c.place-word.ensures.word, c.place-word.ensures.bit)
+    (bit_tested _ _ ∙ sym (on_day_bit m c.args.day c.if-day-eq0.false (omega arith)))
