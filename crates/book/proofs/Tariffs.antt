@@ -6,14 +6,14 @@ use Rattle.forms.specs.declared.group.TariffRow.{TariffRow}
 use Rattle.forms.specs.declared.terms.Opening.{Opening}
 use Rattle.forms.specs.Figures.{RateFigures, rates_of}
 use Rattle.forms.specs.Openings.{terms_in}
-use Rattle.forms.proofs.OpeningLaws.{rows_in, row_in}
+use Rattle.forms.proofs.OpeningLaws.{lawful_in}
 use Rattle.settlement.specs.Amounts.{row_for}
 
 pub rate_within : (o : Opening) (i : ℕ) → (get_or (terms_in o).tariff i (record { fee = 0; rate = 0 })).rate ≤ 1000000
 rate_within o i =
-    elim (cases_lt i o.rows) [
-      | inl l ↦ omega (arith, ap (λ (f : RateFigures). f.rate) (row_in o i (record { fee = 0; rate = 0 }) (record { fee = 0; rate = 0 }) l), o.rates i)
-      | inr l ↦ omega (arith, ap (λ (f : RateFigures). f.rate) (get_or_past (terms_in o).tariff i (record { fee = 0; rate = 0 }) (omega (arith, rows_in o))))
+    elim (cases_lt i (length (terms_in o).tariff)) [
+      | inl l ↦ (lawful_in o).rates i (record { fee = 0; rate = 0 }) l
+      | inr l ↦ omega (arith, ap (λ (f : RateFigures). f.rate) (get_or_past (terms_in o).tariff i (record { fee = 0; rate = 0 }) l))
     ]
 
 -- the row of a stage has a rate within the bound
@@ -21,4 +21,4 @@ pub row_within : (o : Opening) (stage : ℕ) → (row_for (terms_in o).tariff st
 row_within o stage = rate_within o (min stage (length (terms_in o).tariff - 1))
 
 pub rows_there : (o : Opening) (rows : List TariffRow) → map rates_of rows ≡ (terms_in o).tariff → 0 < length rows
-rows_there o rows e = omega (arith, sym (length-map rows rates_of) ∙ ap length e ∙ rows_in o, o.priced)
+rows_there o rows e = omega (arith, sym (length-map rows rates_of) ∙ ap length e, (lawful_in o).rows_least)

@@ -35,13 +35,12 @@ impl<R: StageRule> Book<R> {
         R: Copy,
         ensures { (result, held_in self.new.inner, sheet.new) ≡ opened_by (held_in self.old.inner) rule form.now sheet.old }
     {
-        let reader = OpeningReader::new(form);
-        reader.check_sizes()?;
-        if !sheet_fits(reader.groups() as usize, sheet) {
+        let form = OpeningReader::new(form).form()?;
+        if !sheet_fits(form.groups() as usize, sheet) {
             return Err(Fault::WrongBuffer);
         }
-        reader.check_rows()?;
-        let ledger = Ledger::begun(reader.opening());
+        form.check_rows()?;
+        let ledger = Ledger::begun(form.opening());
         clear(sheet);
         self.inner = Some(Opened { rule, ledger });
         Ok(())

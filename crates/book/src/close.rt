@@ -28,8 +28,7 @@ impl Ledger {
     ) -> Result<ClosingDay<'l, 'w, 'f>, Fault>
         ensures { Finds result (close_check (state_of self.now) sheet.now rows form.now) (λ c. (c.day.ledger.now ≡ self.now) × (c.day.sheet.now ≡ sheet.now) × (c.form.bytes.now ≡ form.now)) }
     {
-        let form = ClosingReader::new(form, self.groups() as u8, self.quarters());
-        form.check_sizes()?;
+        let form = ClosingReader::new(form, self.groups() as u8, self.quarters()).form()?;
         let Phase::After = self.phase else {
             return Err(Fault::WrongPhase);
         };

@@ -8,7 +8,7 @@ ghost use Rattle.book.specs.States.{state_of, size, day_quarters};
 
 use crate::open_day::OpenDay;
 use crate::result_row::ResultRow;
-use forms::closing::ClosingReader;
+use forms::closing::ClosingForm;
 use settlement::amounts::to_cents;
 use stage::rule::StageRule;
 
@@ -16,7 +16,7 @@ use stage::rule::StageRule;
 #[derive(Clone, Copy)]
 pub struct ClosingDay<'l, 'w, 'f> {
     pub(crate) day: OpenDay<'l, 'w>,
-    pub(crate) form: ClosingReader<'f>,
+    pub(crate) form: ClosingForm<'f>,
     ghost after: { day.ledger.now.phase ≡ After },
     ghost closing: { Closing (state_of day.ledger.now) form.groups form.quarters form.bytes.now },
 }

@@ -1,10 +1,10 @@
 //! The current day of a ledger, with the sheet that a call is lent.
 ghost use Rattle.std.specs.Prelude.{◌≡◌, length};
-ghost use Rattle.settlement.specs.Sheets.{SheetOf, sheet_size};
+ghost use Rattle.settlement.specs.Sheets.{sheet_size};
 ghost use Rattle.book.specs.States.{state_of, size};
 
 use crate::ledger::Ledger;
-use settlement::sheet::Sheet;
+use settlement::sheet::{Sheet, WholeSheet};
 
 /// A ledger, and a sheet that has the length for its groups.
 #[derive(Clone, Copy)]
@@ -16,13 +16,12 @@ pub struct OpenDay<'l, 'w> {
 
 impl<'l, 'w> OpenDay<'l, 'w> {
     /// The sheet, read by what was sent today.
-    pub(crate) fn on_sheet(&self) -> Sheet<'l, 'w>
+    pub(crate) fn on_sheet(&self) -> WholeSheet<'l, 'w>
         ensures groups { result.groups ≡ size (state_of self.now.ledger.now) }
         ensures sent { result.sent.now ≡ self.now.ledger.now.sent }
         ensures words { result.words.now ≡ self.now.sheet.now }
-        ensures whole { SheetOf result.groups result.sent.now result.words.now }
     {
         let ledger = self.ledger;
-        Sheet::new(ledger.groups(), &ledger.sent, self.sheet)
+        Sheet::new(ledger.groups(), &ledger.sent, self.sheet).whole()
     }
 }

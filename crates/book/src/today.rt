@@ -19,7 +19,7 @@ impl Ledger {
     /// How many groups the book has.
     pub(crate) fn groups(&self) -> usize
         ensures value { result ≡ size (state_of self.now) }
-        ensures count { result ≡ self.now.opening.count }
+        ensures count { result ≡ self.now.opening.groups.count }
         ensures some { 2 ≤ result }
         ensures few { result ≤ 16 }
     {

@@ -1,7 +1,7 @@
 use Rattle.std.proofs.Common.{◌≡◌, ◌+◌, ◌<◌, false, length, get_or, pos, nat_abs, sym, ap, ◌∙◌, arith, w64, to_z, of_z, rules}
 use Rattle.std.proofs.lemmas.List.{length-set, take-map, get_or-map}
 use Rattle.std.proofs.lemmas.Int.{to_z-of_z}
-use Rattle.forms.proofs.OpeningLaws.{count_in}
+use Rattle.forms.proofs.OpeningLaws.{lawful_in}
 use Rattle.forms.proofs.Writes.{written_more, written_all}
 use Rattle.settlement.specs.declared.phase.Phase.TheVariants.{Ahead}
 use Rattle.book.specs.declared.result_row.ResultRow.{ResultRow}
@@ -16,10 +16,10 @@ abbrev no_row : ResultRow
 no_row = record { day = 0; group = 0; mark = false; stage = 0; penalty = 0; balance = pos 0 }
 
 pub offset_bounds-accounts-a : goal.offset_bounds-accounts-a
-offset_bounds-accounts-a c = let l : c.loop-a.a < 16 = omega (arith, c.requires.0, c.loop-a-test.true, count_in c.args.self.now.day.ledger.now.opening) in search rules
+offset_bounds-accounts-a c = let l : c.loop-a.a < 16 = omega (arith, c.requires.0, c.loop-a-test.true, (lawful_in c.args.self.now.day.ledger.now.opening).groups_most) in search rules
 
 pub bounds-accounts-a : goal.bounds-accounts-a
-bounds-accounts-a c = omega (arith, c.requires.0, c.loop-a-test.true, count_in c.args.self.now.day.ledger.now.opening)
+bounds-accounts-a c = omega (arith, c.requires.0, c.loop-a-test.true, (lawful_in c.args.self.now.day.ledger.now.opening).groups_most)
 
 pub day_done-requires : goal.day_done-requires
 day_done-requires c =
@@ -44,7 +44,7 @@ loop-a-preserved c =
     let inv = c.loop-a.invariant in
     let new = c.day_done.result in
     let after = ap (cut_offs l.closed) c.args.self.now.after in
-    let within : a < length xs = omega (arith, inv.0, c.requires.0, c.loop-a-test.true, count_in l.opening) in
+    let within : a < length xs = omega (arith, inv.0, c.requires.0, c.loop-a-test.true, (lawful_in l.opening).groups_most) in
     let in_rows : a < length rows = omega (arith, c.loop-a-test.true) in
     let same = to_z-of_z w64 (get_or rows a no_row).balance (search rules) in
     let amount : to_z w64 (of_z w64 (get_or rows a no_row).balance) ≡ balance_in_row rows a =

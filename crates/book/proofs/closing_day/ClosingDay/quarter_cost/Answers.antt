@@ -20,7 +20,6 @@ quarter_cost-requires c =
     let long = long_price_within _ _ form p.lawful c.args.t q in
     let short = short_price_within _ _ form p.lawful c.args.t q in
     record {
-      sheet = c.on_sheet.ensures.whole;
       within = (omega (arith, c.on_sheet.ensures.groups, c.requires.0), omega (arith, c.requires.1, quarters_fit (today s)));
       lawful = (
         omega (arith, feed, ap nat_abs (to_z-of_z w32 c.feed_in-feed.result (search rules) ∙ c.feed_in-feed.ensures)),

@@ -1,16 +1,16 @@
 use Rattle.std.proofs.Common.{◌≡◌, ℕ, ◌+◌, ◌<◌, Bool, List, nat_abs, ap, ◌∙◌, arith, w64, rules}
 use Rattle.std.proofs.lemmas.Int.{to_z-of_z}
-use Rattle.forms.proofs.OpeningLaws.{count_in}
+use Rattle.forms.proofs.OpeningLaws.{lawful_in}
 use Rattle.stage.specs.Marked.{on_day}
 use Rattle.book.specs.Closes.{day_row}
 use Rattle.book.specs.States.{State, GroupState, state_of}
 use Rattle.book.proofs.closing_day.ClosingDay.result_row.Goals as goal
 
 pub overflow_cast-result : goal.overflow_cast-result
-overflow_cast-result g c = let l : c.args.a < 16 = omega (arith, count_in c.args.self.now.day.ledger.now.opening) in search rules
+overflow_cast-result g c = let l : c.args.a < 16 = omega (arith, (lawful_in c.args.self.now.day.ledger.now.opening).groups_most) in search rules
 
 pub overflow_add-result : goal.overflow_add-result
-overflow_add-result g c = let l : c.args.a < 16 = omega (arith, count_in c.args.self.now.day.ledger.now.opening) in search rules
+overflow_add-result g c = let l : c.args.a < 16 = omega (arith, (lawful_in c.args.self.now.day.ledger.now.opening).groups_most) in search rules
 
 pub returns : goal.returns
 unfolding day_row

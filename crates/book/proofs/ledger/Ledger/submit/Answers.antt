@@ -4,7 +4,7 @@ use Rattle.std.specs.Option.{option_map}
 use Rattle.settlement.specs.Sheets.{sheet_size}
 use Rattle.message.specs.Form.{said}
 use Rattle.message.specs.Places.{first_of}
-use Rattle.forms.proofs.OpeningLaws.{count_in}
+use Rattle.forms.proofs.OpeningLaws.{lawful_in}
 use Rattle.book.specs.declared.ledger.Ledger.{Ledger}
 use Rattle.book.specs.Messages.{Read, submit_check, beyond_now, beyond_at, beyond_count, count_where, state_with, sheet_after}
 use Rattle.book.specs.States.{State, state_of, size, day_quarters}
@@ -46,7 +46,7 @@ returns c =
     let read = found.2 in
     let after = c.ledger_after-after.ensures ∙ (λ j. state_with (here j) x.own x.version (read j)) in
     let laid = c.lay.ensures ∙ (λ j. sheet_after g q x.own (read j) sheet) in
-    let enough = flags_enough g (omega (arith, count_in l.opening)) in
+    let enough = flags_enough g (omega (arith, (lawful_in l.opening).groups_most)) in
     let same : (t : ℕ) → t < q → beyond_now (state_with s x.own x.version form) (sheet_after g q x.own form sheet) x.own t ≡ beyond_at s x.own form t =
     beyond_same s x.own x.version form sheet mine room (omega (arith, enough, l.flags)) in
     let count : c.beyond.result.beyond ≡ count_where (beyond_at s x.own form) q =

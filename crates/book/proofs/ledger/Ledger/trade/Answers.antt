@@ -10,10 +10,7 @@ trade-requires c =
     let b = c.in_ok-b.ensures in
     let t = c.in_ok-t.ensures in
     let same = ap (λ (l : Ledger). size (state_of l)) c.in_ok-day.ensures.1.0 in
-    record {
-      sheet = c.on_sheet.ensures.whole;
-      within = (
+    (
         omega (arith, a.3, c.on_sheet.ensures.groups, same),
         (omega (arith, b.3, c.on_sheet.ensures.groups, same), omega (arith, t.3, quarters_fit (today (state_of c.args.self.now)))),
-      );
-    }
+    )

@@ -12,13 +12,8 @@ use Rattle.book.proofs.Accounts.{bounded_set}
 use Rattle.book.proofs.open_day.OpenDay.cut_off.Goals as goal
 
 pub day_excess-energy-requires : goal.day_excess-energy-requires
-day_excess-energy-requires g c = record {
-  sheet = c.on_sheet-day.ensures.whole;
-  within = (
-    omega (arith, c.on_sheet-day.ensures.groups, c.groups-a-end.ensures.value),
-    c.quarters-quarters.ensures.few,
-  );
-}
+day_excess-energy-requires g c =
+    (omega (arith, c.on_sheet-day.ensures.groups, c.groups-a-end.ensures.value), c.quarters-quarters.ensures.few)
 
 pub charge-requires : goal.charge-requires
 charge-requires g c =
