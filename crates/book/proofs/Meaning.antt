@@ -4,7 +4,7 @@ use Rattle.std.proofs.lemmas.Nat.{mul-add-lt, mul-le}
 use Rattle.std.proofs.lemmas.List.FromFn.{get_or-map-range_with_len}
 use Rattle.std.proofs.lemmas.List.{get_or-set_same, get_or-set_other, get_or_past, length-set}
 use Rattle.std.proofs.lemmas.Bool.{cases_eq, cases_lt, eq-eqb, ne_eqb, eqb-true, leb-true, and_parts, cond-true, cond-false}
-use Rattle.forms.specs.Checks.{Verdict, and_then, refuse_if}
+use Rattle.forms.specs.Checks.{Verdict, verdict, and_then, refuse_if}
 use Rattle.forms.specs.Slots.{Slot}
 use Rattle.forms.specs.declared.fault.Fault.TheVariants.{WrongPhase, WrongBuffer, WrongGroup}
 use Rattle.forms.proofs.Firsts.{and_then_left, and_then_right, allowed}
@@ -12,7 +12,7 @@ use Rattle.message.specs.Form.{header_of, said}
 use Rattle.settlement.specs.Sheets.{Within, slots, slot_number, slot_place, sheet_size, on_sheet}
 use Rattle.settlement.proofs.Places.{number_below, place_below}
 use Rattle.book.specs.Meant.{MessageStands, MessageFixesNothing}
-use Rattle.book.specs.Messages.{sent_after, word_after, sheet_after, flags_after, submit_check, sender_check, series_check, passed, with_version, state_with, beyond_count}
+use Rattle.book.specs.Messages.{sent_after, word_after, sheet_after, flags_after, submit_check, sender_check, series_check, with_version, state_with, beyond_count}
 use Rattle.book.specs.Queries.{if_passed, one_of, day_check, group_check}
 use Rattle.book.specs.Sheets.{sheet_fits, all_powers}
 use Rattle.book.specs.States.{State, GroupState, nothing_kept, size, kept, today, day_quarters, year_over, statements}
@@ -58,7 +58,7 @@ module _ (s : State) (sheet form : List ℕ) (accepted : submit_check s sheet fo
       (and_then (sender_check s (said form).group (said form).day (said form).version) (series_check s sheet ((said form).group - 1) form))
 
   past_header : after-header ≡ Ok tt
-  past_header = and_then_right (passed (header_of (day_quarters s) form)) after-header accepted
+  past_header = and_then_right (verdict (header_of (day_quarters s) form)) after-header accepted
 
   -- the sheet fits, and the sender is one of the groups
   room_there : length sheet ≡ sheet_size (size s)

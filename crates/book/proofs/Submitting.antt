@@ -1,11 +1,11 @@
 -- The tests of a message, one after another.
 use Rattle.std.proofs.Common.{◌≡◌, ℕ, ◌-◌, List, Ok, Err, Option, Result, refl, ap}
 use Rattle.forms.specs.declared.fault.Fault.{Fault}
-use Rattle.forms.specs.Checks.{Verdict, and_then}
+use Rattle.forms.specs.Checks.{Verdict, verdict, and_then}
 use Rattle.message.specs.declared.Header.{Header}
 use Rattle.message.specs.Form.{header_of, said}
 use Rattle.book.specs.declared.answers.Submitted.{Submitted}
-use Rattle.book.specs.Messages.{passed, sender_check, series_check, submit_check, submitted, submitted_of, beyond_count, state_with, sheet_after}
+use Rattle.book.specs.Messages.{sender_check, series_check, submit_check, submitted, submitted_of, beyond_count, state_with, sheet_after}
 use Rattle.book.specs.Queries.{day_check}
 use Rattle.book.specs.States.{State, size, day_quarters}
 
@@ -17,10 +17,10 @@ module _ (s : State) (sheet form : List ℕ) (h : Header) (header : header_of (d
   sender = sender_check s (said form).group (said form).day (said form).version
 
   pub sender_refused : (e : Fault) → sender ≡ Err e → submit_check s sheet form ≡ Err e
-  sender_refused e p = in_order _ _ sender _ _ (ap passed header) day (rw p refl)
+  sender_refused e p = in_order _ _ sender _ _ (ap verdict header) day (rw p refl)
 
   pub series_answers : (v : Verdict) → sender ≡ Ok tt → series_check s sheet ((said form).group - 1) form ≡ v → submit_check s sheet form ≡ v
-  series_answers v p e = in_order _ _ sender _ _ (ap passed header) day (rw p e)
+  series_answers v p e = in_order _ _ sender _ _ (ap verdict header) day (rw p e)
 
 -- the outcome, by what the tests find
 pub submit_refused : (s : State) (sheet form : List ℕ) (r : Result Submitted Fault) (e : Fault) → r ≡ Err e → submit_check s sheet form ≡ Err e

@@ -4,7 +4,7 @@ use Rattle.std.specs.List.{range_with_len}
 use Rattle.std.specs.Option.{option_map}
 use Rattle.forms.specs.declared.fault.Fault.{Fault}
 use Rattle.forms.specs.declared.fault.Fault.TheVariants.{WrongDay, WrongVersion, MissingSeries, GrowingPosition}
-use Rattle.forms.specs.Checks.{Verdict, and_then, refuse_if, each_of}
+use Rattle.forms.specs.Checks.{Verdict, verdict, and_then, refuse_if, each_of}
 use Rattle.forms.specs.Slots.{Slot, cons, prod, pump}
 use Rattle.message.specs.Form.{Formed, header_of, said, value_at}
 use Rattle.message.specs.Heads.{heads_check}
@@ -59,11 +59,6 @@ abbrev pub growth_check : State → List ℕ → ℕ → List ℕ → Verdict
 growth_check s sheet own form =
     cond (is_after s.phase && not (figures s own).metered) (each_growth s sheet own form (day_quarters s)) (Ok tt)
 
--- what was found, left aside
-abbrev pub passed : {A : Type 0} → Result A Fault → Verdict
-passed (Ok _) = Ok tt
-passed (Err e) = Err e
-
 -- The tests of a message, in rising number. First its group, day and version, then its series; own is the sender.
 abbrev pub sender_check : State → ℕ → ℕ → ℕ → Verdict
 sender_check s group day version =
@@ -80,7 +75,7 @@ series_check s sheet own form =
 
 abbrev pub submit_check : State → List ℕ → List ℕ → Verdict
 submit_check s sheet form =
-    and_then (passed (header_of (day_quarters s) form))
+    and_then (verdict (header_of (day_quarters s) form))
     (and_then (day_check s sheet)
     (and_then (sender_check s (said form).group (said form).day (said form).version) (series_check s sheet ((said form).group - 1) form)))
 
