@@ -41,19 +41,21 @@ impl Ledger {
     }
 }
 
-/// A group when its day is closed.
-fn day_done(account: &GroupAccount, amount: i64) -> GroupAccount
-    requires { (balance_in account.now ≤ 366 * most_balance) × (unsigned_abs amount ≤ most_balance) }
-    ensures value { account_of result ≡ day_done (account_of account.now) amount }
-    ensures days { days_in result ≡ days_in account.now }
-    ensures penalties { penalties_in result ≡ penalties_in account.now }
-    ensures balance { balance_in result ≤ balance_in account.now + most_balance }
-{
-    GroupAccount {
-        version: 0,
-        due: 0,
-        balance: account.balance + amount,
-        ..*account
+impl GroupAccount {
+    /// The account when the day is closed, by the day's balance amount.
+    fn day_done(&self, amount: i64) -> GroupAccount
+        requires { (balance_in self.now ≤ 366 * most_balance) × (unsigned_abs amount ≤ most_balance) }
+        ensures value { account_of result ≡ day_done (account_of self.now) amount }
+        ensures days { days_in result ≡ days_in self.now }
+        ensures penalties { penalties_in result ≡ penalties_in self.now }
+        ensures balance { balance_in result ≤ balance_in self.now + most_balance }
+    {
+        GroupAccount {
+            version: 0,
+            due: 0,
+            balance: self.balance + amount,
+            ..*self
+        }
     }
 }
 
@@ -77,7 +79,7 @@ impl ClosingDay<'_, '_, '_> {
         let ledger = self.day.ledger;
         let mut accounts = ledger.accounts;
         for (a, row) in rows.iter().enumerate() {
-            accounts[a] = day_done(&ledger.account(a), row.balance);
+            accounts[a] = ledger.account(a).day_done(row.balance);
         }
         // a struct with ghost fields takes no `..`
         Ledger {

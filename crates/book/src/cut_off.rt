@@ -17,29 +17,26 @@ use settlement::amounts::{penalty, row_for};
 use settlement::phase::Phase;
 use stage::rule::StageRule;
 
-/// A group once its day's excess is known.
-pub(crate) fn charge<R: StageRule>(
-    rule: &R,
-    opening: &Opening,
-    account: &GroupAccount,
-    energy: u64,
-) -> GroupAccount
-    requires room { (length (marks_of account.now.marks) < 366) × (account.now.penalties ≤ 366 * most_penalty) }
-    requires energy { energy < 2 ^ 44 }
-    ensures value { account_of result ≡ charged (R.meaning rule.now) (terms_in opening.now).tariff (account_of account.now) energy }
-    ensures days { days_in result ≡ days_in account.now + 1 }
-    ensures penalties { penalties_in result ≤ penalties_in account.now + most_penalty }
-    ensures balance { result.balance ≡ account.now.balance }
-{
-    let mut marks = account.marks;
-    marks.push(energy > 0);
-    let stage = rule.stage(&marks);
-    let due = penalty(row_for(opening.tariff(), stage), energy);
-    GroupAccount {
-        marks,
-        due,
-        penalties: account.penalties + due,
-        ..*account
+impl GroupAccount {
+    /// The account once the day's excess is known.
+    fn charged<R: StageRule>(&self, rule: &R, opening: &Opening, energy: u64) -> GroupAccount
+        requires room { (length (marks_of self.now.marks) < 366) × (self.now.penalties ≤ 366 * most_penalty) }
+        requires energy { energy < 2 ^ 44 }
+        ensures value { account_of result ≡ charged (R.meaning rule.now) (terms_in opening.now).tariff (account_of self.now) energy }
+        ensures days { days_in result ≡ days_in self.now + 1 }
+        ensures penalties { penalties_in result ≤ penalties_in self.now + most_penalty }
+        ensures balance { result.balance ≡ self.now.balance }
+    {
+        let mut marks = self.marks;
+        marks.push(energy > 0);
+        let stage = rule.stage(&marks);
+        let due = penalty(row_for(opening.tariff(), stage), energy);
+        GroupAccount {
+            marks,
+            due,
+            penalties: self.penalties + due,
+            ..*self
+        }
     }
 }
 
@@ -55,7 +52,7 @@ impl OpenDay<'_, '_> {
         let mut accounts = ledger.accounts;
         for a in 0..ledger.groups() {
             let energy = day.day_excess(&ledger.figures(a), a, quarters);
-            accounts[a] = charge(rule, &ledger.opening, &ledger.account(a), energy);
+            accounts[a] = ledger.account(a).charged(rule, &ledger.opening, energy);
         }
         // a struct with ghost fields takes no `..`
         Ledger {

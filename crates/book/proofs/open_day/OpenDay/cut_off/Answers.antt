@@ -15,8 +15,8 @@ pub day_excess-energy-requires : goal.day_excess-energy-requires
 day_excess-energy-requires g c =
     (omega (arith, c.on_sheet-day.ensures.groups, c.groups-a-end.ensures.value), c.quarters-quarters.ensures.few)
 
-pub charge-requires : goal.charge-requires
-charge-requires g c =
+pub charged-requires : goal.charged-requires
+charged-requires g c =
     let near = ap (cut_offs c.args.self.now.ledger.now.closed) c.requires.0 in
     record {
       room = (
@@ -35,7 +35,7 @@ loop-a-preserved g c =
     let xs = c.loop-a.accounts in
     let a = c.loop-a.a in
     let inv = c.loop-a.invariant in
-    let new = c.charge.result in
+    let new = c.charged.result in
     let near = ap (cut_offs c.args.self.now.ledger.now.closed) c.requires.0 in
     let within : a < length xs = omega (arith, inv.0, c.groups-a-end.ensures.few) in
     let groups = c.on_sheet-day.ensures.groups in
@@ -47,12 +47,12 @@ loop-a-preserved g c =
     c.day_excess-energy.ensures.value
     ∙ (λ j. day_excess (on_sheet (groups j) (sent j) (words j)) (figures j) (groups j) a (quarters j)) in
     let is : account_of new ≡ past_cut_off m s sheet a =
-    c.charge.ensures.value ∙ (λ j. charged m s.terms.tariff (c.account.ensures.value j) (energy j)) in (
+    c.charged.ensures.value ∙ (λ j. charged m s.terms.tariff (c.account.ensures.value j) (energy j)) in (
       length-set xs a new ∙ inv.0,
       written_more account_of (past_cut_off m s sheet) xs a new within is inv.1,
-      bounded_set days_in xs a new _ within (omega (arith, c.charge.ensures.days, c.account.ensures.days, near)) inv.2,
-      bounded_set penalties_in xs a new _ within (omega (arith, c.charge.ensures.penalties, c.account.ensures.penalties, near)) inv.3,
-      bounded_set balance_in xs a new _ within (omega (arith, ap nat_abs c.charge.ensures.balance, c.account.ensures.balance)) inv.4,
+      bounded_set days_in xs a new _ within (omega (arith, c.charged.ensures.days, c.account.ensures.days, near)) inv.2,
+      bounded_set penalties_in xs a new _ within (omega (arith, c.charged.ensures.penalties, c.account.ensures.penalties, near)) inv.3,
+      bounded_set balance_in xs a new _ within (omega (arith, ap nat_abs c.charged.ensures.balance, c.account.ensures.balance)) inv.4,
     )
 
 pub returns : goal.returns

@@ -7,7 +7,7 @@ use Rattle.stage.specs.Marked.{marks_of}
 use Rattle.stage.specs.MarkLists.{length_marks}
 use Rattle.settlement.specs.Amounts.{is_marked, row_for, penalty}
 use Rattle.book.proofs.Tariffs.{row_within, rows_there}
-use Rattle.book.proofs.cut_off.charge.Goals as goal
+use Rattle.book.proofs.group_account.GroupAccount.charged.Goals as goal
 
 pub row_for-requires : goal.row_for-requires
 row_for-requires g c = rows_there c.args.opening.now c.tariff.result.now c.tariff.ensures.told
@@ -19,7 +19,7 @@ penalty-due-requires g c =
 
 pub returns : goal.returns
 returns g c =
-    let old = c.args.account.now in
+    let old = c.args.self.now in
     let E = c.args.energy in
     let m : List Bool → ℕ = g.R.StageRule.meaning c.args.rule.now in
     let tariff = (terms_in c.args.opening.now).tariff in
