@@ -17,6 +17,7 @@ pub fn in_order<F: Fn(u8) -> Result<(), Fault>>(count: u8, check: F) -> Result<(
 
 /// Checks that run series by series, and in each series quarter hour by quarter hour, answer the
 /// earliest series, and in it the earliest quarter hour. The contract is that theorem.
+#[tactic(auto, using(crate::proofs::Firsts::earliest_answers))]
 pub fn earliest_answers()
     ensures { EarliestAnswers }
 {}

@@ -71,6 +71,7 @@ impl<'a> ClosingForm<'a> {
     }
 
     // every quarter hour of one series
+    #[tactic(auto, using(crate::proofs::Firsts::each_in_order))]
     fn check_series(&self, i: usize, bound: u32) -> Result<(), Fault>
         requires within { i < series_count self.now.groups }
         requires bound { bound ≡ value_bound self.now.groups i }
@@ -80,6 +81,7 @@ impl<'a> ClosingForm<'a> {
     }
 
     // the feed-ins of every group
+    #[tactic(auto, using(crate::proofs::Firsts::each_in_order))]
     fn check_feed_ins(&self) -> Result<(), Fault>
         ensures { result ≡ each_of (series_check self.now.groups self.now.quarters self.now.bytes.now) self.now.groups }
     {

@@ -74,12 +74,14 @@ impl<'a> OpeningForm<'a> {
         })
     }
 
+    #[tactic(auto, using(crate::proofs::Firsts::each_in_order))]
     fn check_groups(&self) -> Result<(), Fault>
         ensures { result ≡ each_of (group_check self.now.bytes.now) (groups_told self.now.bytes.now) }
     {
         in_order(self.groups(), |a| self.check_group(a as usize))
     }
 
+    #[tactic(auto, using(crate::proofs::Firsts::each_in_order))]
     fn check_tariff(&self) -> Result<(), Fault>
         ensures { result ≡ each_of (row_check self.now.bytes.now (groups_told self.now.bytes.now)) (rows_told self.now.bytes.now) }
     {

@@ -2,6 +2,13 @@
 ghost use Rattle.std.specs.Prelude.{◌≡◌};
 ghost use Rattle.forms.specs.Slots.{slot_of, kind_of, counter_of};
 
+/// The kinds by which heads name what a series is about.
+pub const OUT: u8 = 1;
+pub const IN: u8 = 2;
+pub const CONS: u8 = 3;
+pub const PROD: u8 = 4;
+pub const PUMP: u8 = 5;
+
 /// A group's series: trades out to another group, trades in from one, or a forecast.
 /// Groups count from 0 here; in the bytes of a head they count from 1.
 #[derive(Clone, Copy, PartialEq, Eq)]
@@ -19,11 +26,11 @@ impl Slot {
         ensures { result ≡ kind_of (slot_of self) }
     {
         match self {
-            Slot::OutTo(_) => 1,
-            Slot::InFrom(_) => 2,
-            Slot::Cons => 3,
-            Slot::Prod => 4,
-            Slot::Pump => 5,
+            Slot::OutTo(_) => OUT,
+            Slot::InFrom(_) => IN,
+            Slot::Cons => CONS,
+            Slot::Prod => PROD,
+            Slot::Pump => PUMP,
         }
     }
 

@@ -1,41 +1,17 @@
 //! Which series of a message is about what.
 ghost use Rattle.std.specs.Prelude.{◌≡◌, ◌<◌, ◌≤◌};
 ghost use Rattle.forms.specs.Slots.{slot_of, kind_of, counter_of};
-ghost use Rattle.message.specs.Form.{Formed, series_count};
+ghost use Rattle.message.specs.Form.{series_count};
 ghost use Rattle.message.specs.Places.{first_of, head_is, place_of, place_under, IsFirst};
 
-use crate::MessageReader;
+use crate::Message;
 use forms::slot::Slot;
 
-/// The kind by which a head names the slot.
-fn kind_of(slot: Slot) -> u8
-    ensures { result ≡ kind_of (slot_of slot) }
-{
-    match slot {
-        Slot::OutTo(_) => 1,
-        Slot::InFrom(_) => 2,
-        Slot::Cons => 3,
-        Slot::Prod => 4,
-        Slot::Pump => 5,
-    }
-}
-
-/// The counter by which a head names the slot. It is wider than a head's byte, which has none for
-/// the last group that a slot can name.
-fn counter_of(slot: Slot) -> u16
-    ensures { result ≡ counter_of (slot_of slot) }
-{
-    match slot {
-        Slot::OutTo(group) | Slot::InFrom(group) => u16::from(group) + 1,
-        Slot::Cons | Slot::Prod | Slot::Pump => 0,
-    }
-}
-
-impl<'a> MessageReader<'a> {
-    /// The first of the first `below` series whose head has this kind and counter.
+impl<'a> Message<'a> {
+    /// The first of the first `below` series whose head has this kind and counter. No `Head` stands
+    /// for the two, since the counter of the last group that a slot can name fits no byte.
     pub(crate) fn first_below(&self, below: u8, kind: u8, counter: u16) -> Option<u8>
-        requires formed { Formed self.now.quarters self.now.bytes.now }
-        requires there { below ≤ series_count self.now.bytes.now }
+        requires { below ≤ series_count self.now.bytes.now }
         ensures { result ≡ first_of (head_is self.now.bytes.now kind counter) below }
     {
         for i in 0..below {
@@ -49,7 +25,6 @@ impl<'a> MessageReader<'a> {
 
     /// The first series whose head has this kind and counter.
     pub(crate) fn find_head(&self, kind: u8, counter: u16) -> Option<u8>
-        requires { Formed self.now.quarters self.now.bytes.now }
         ensures value { result ≡ place_under self.now.bytes.now kind counter }
         ensures first { IsFirst (head_is self.now.bytes.now kind counter) (series_count self.now.bytes.now) result }
     {
@@ -58,10 +33,9 @@ impl<'a> MessageReader<'a> {
 
     /// The first series that is about `slot`.
     pub fn find(&self, slot: Slot) -> Option<u8>
-        requires { Formed self.now.quarters self.now.bytes.now }
         ensures value { result ≡ place_of self.now.bytes.now (slot_of slot) }
         ensures first { IsFirst (head_is self.now.bytes.now (kind_of (slot_of slot)) (counter_of (slot_of slot))) (series_count self.now.bytes.now) result }
     {
-        self.find_head(kind_of(slot), counter_of(slot))
+        self.find_head(slot.kind(), slot.counter())
     }
 }

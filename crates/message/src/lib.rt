@@ -4,16 +4,17 @@
 //! from 1.
 #![tactic(auto)]
 
-ghost use Rattle.std.specs.Prelude.{◌≡◌, ◌+◌, ◌*◌, ◌<◌, ◌≤◌, length, OnOk};
-ghost use Rattle.message.specs.Form.{Formed, series_count, header_of, head_of, value_at, values_at, values_start};
+ghost use Rattle.std.specs.Prelude.{◌≡◌, ◌+◌, ◌*◌, ◌<◌, ◌≤◌, length};
+ghost use Rattle.message.specs.Form.{Formed, series_count, said, head_of, value_at, values_at, values_start};
 
 pub mod find;
 pub mod heads;
+mod reader;
 pub mod series;
 pub mod values;
 
+pub use crate::reader::MessageReader;
 use forms::bytes::{be16_at, be32_at};
-use forms::fault::Fault;
 
 /// The length of a message's header.
 pub const HEADER: usize = 8;
@@ -34,11 +35,12 @@ pub struct Head {
     pub counter: u8,
 }
 
-/// Reads the message in `bytes`, which has to be for a day of `quarters` quarter hours.
+/// A message in its bytes, for a day of `quarters` quarter hours, as long as its sizes give.
 #[derive(Clone, Copy)]
-pub struct MessageReader<'a> {
+pub struct Message<'a> {
     bytes: &'a [u8],
     quarters: u8,
+    ghost formed: { Formed quarters bytes.now },
 }
 
 /// The place of a series or a quarter hour as a fault names it, from 1.
@@ -48,43 +50,28 @@ pub(crate) fn place(index: u8) -> u16
     u16::from(index) + 1
 }
 
-impl<'a> MessageReader<'a> {
-    /// A reader of `bytes`, for a day of `quarters` quarter hours.
-    pub fn new(bytes: &'a [u8], quarters: u8) -> MessageReader<'a>
-        ensures bytes { result.bytes.now ≡ bytes.now }
-        ensures quarters { result.quarters ≡ quarters }
+impl<'a> Message<'a> {
+    /// What the header says.
+    pub fn header(&self) -> Header
+        ensures { result ≡ said self.now.bytes.now }
     {
-        MessageReader { bytes, quarters }
+        Header {
+            count: self.count(),
+            group: be16_at(self.bytes, 2),
+            version: be16_at(self.bytes, 4),
+            day: be16_at(self.bytes, 6),
+        }
     }
 
-    /// The header, once the length is what its sizes give.
-    pub fn header(&self) -> Result<Header, Fault>
-        ensures value { result ≡ header_of self.now.quarters self.now.bytes.now }
-        ensures formed { OnOk result (Formed self.now.quarters self.now.bytes.now) }
+    /// How many quarter hours its day has.
+    pub fn quarters(&self) -> u8
+        ensures { result ≡ self.now.quarters }
     {
-        let bytes = self.bytes;
-        if bytes.len() < HEADER {
-            return Err(Fault::ShortForm);
-        }
-        if bytes[1] != self.quarters {
-            return Err(Fault::WrongSize);
-        }
-        let series = bytes[0] as usize;
-        let quarters = bytes[1] as usize;
-        if bytes.len() != HEADER + 2 * series + 4 * (series * quarters) {
-            return Err(Fault::WrongLength);
-        }
-        Ok(Header {
-            count: bytes[0],
-            group: be16_at(bytes, 2),
-            version: be16_at(bytes, 4),
-            day: be16_at(bytes, 6),
-        })
+        self.quarters
     }
 
     /// How many series the message has.
     pub fn count(&self) -> u8
-        requires { Formed self.now.quarters self.now.bytes.now }
         ensures { result ≡ series_count self.now.bytes.now }
     {
         self.bytes[0]
@@ -92,8 +79,7 @@ impl<'a> MessageReader<'a> {
 
     /// The head of series `i`.
     pub fn head(&self, i: u8) -> Head
-        requires formed { Formed self.now.quarters self.now.bytes.now }
-        requires there { i < series_count self.now.bytes.now }
+        requires { i < series_count self.now.bytes.now }
         ensures { result ≡ head_of self.now.bytes.now i }
     {
         let at = HEADER + 2 * i as usize;
@@ -105,8 +91,7 @@ impl<'a> MessageReader<'a> {
 
     /// Where the values of series `i` begin.
     fn start(&self, i: u8) -> usize
-        requires formed { Formed self.now.quarters self.now.bytes.now }
-        requires there { i < series_count self.now.bytes.now }
+        requires { i < series_count self.now.bytes.now }
         ensures value { result ≡ values_start self.now.quarters self.now.bytes.now i }
         ensures room { result + 4 * self.now.quarters ≤ length self.now.bytes.now }
     {
@@ -115,7 +100,6 @@ impl<'a> MessageReader<'a> {
 
     /// The value of series `i` at quarter hour `t`.
     pub fn value(&self, i: u8, t: u8) -> u32
-        requires formed { Formed self.now.quarters self.now.bytes.now }
         requires there { i < series_count self.now.bytes.now }
         requires within { t < self.now.quarters }
         ensures { result ≡ value_at self.now.quarters self.now.bytes.now i t }
@@ -125,8 +109,7 @@ impl<'a> MessageReader<'a> {
 
     /// The bytes of the values of series `i`.
     pub fn values(&self, i: u8) -> &'a [u8]
-        requires formed { Formed self.now.quarters self.now.bytes.now }
-        requires there { i < series_count self.now.bytes.now }
+        requires { i < series_count self.now.bytes.now }
         ensures { result.now ≡ values_at self.now.quarters self.now.bytes.now i }
     {
         let start = self.start(i);

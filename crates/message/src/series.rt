@@ -2,12 +2,12 @@
 ghost use Rattle.std.specs.Prelude.{◌≡◌, ◌+◌, ◌*◌, ◌<◌, ◌≤◌, length};
 ghost use Rattle.forms.specs.Bytes.{be32};
 ghost use Rattle.forms.specs.Slots.{slot_of};
-ghost use Rattle.message.specs.Form.{Formed, series_count};
+ghost use Rattle.message.specs.Form.{series_count};
 ghost use Rattle.message.specs.Told.{told, Shows, Names, place_told, bytes_of, told_slot};
 
-use crate::{Head, MessageReader, place};
+use crate::{Head, Message, place};
 use forms::bytes::be32_at;
-use forms::slot::Slot;
+use forms::slot::{CONS, IN, OUT, PROD, PUMP, Slot};
 
 /// Whether a trade goes out to the other group or comes in from it.
 #[derive(Clone, Copy)]
@@ -41,40 +41,39 @@ pub enum Series<'a> {
     },
 }
 
-impl<'a> MessageReader<'a> {
+impl<'a> Message<'a> {
     /// Series `i` as read, or none where its kind is no kind.
     pub fn series(&self, i: u8) -> Option<Series<'a>>
-        requires formed { Formed self.now.quarters self.now.bytes.now }
-        requires there { i < series_count self.now.bytes.now }
+        requires { i < series_count self.now.bytes.now }
         ensures { Shows result self.now.quarters self.now.bytes.now i }
     {
         let Head { kind, counter } = self.head(i);
         let place = place(i);
         let values = self.values(i);
         match kind {
-            1 => Some(Series::Trade {
+            OUT => Some(Series::Trade {
                 place,
                 direction: Direction::Out,
                 counter,
                 values,
             }),
-            2 => Some(Series::Trade {
+            IN => Some(Series::Trade {
                 place,
                 direction: Direction::In,
                 counter,
                 values,
             }),
-            3 => Some(Series::Forecast {
+            CONS => Some(Series::Forecast {
                 place,
                 kind: ForecastKind::Cons,
                 values,
             }),
-            4 => Some(Series::Forecast {
+            PROD => Some(Series::Forecast {
                 place,
                 kind: ForecastKind::Prod,
                 values,
             }),
-            5 => Some(Series::Forecast {
+            PUMP => Some(Series::Forecast {
                 place,
                 kind: ForecastKind::Pump,
                 values,
@@ -90,8 +89,7 @@ impl<'a> Series<'a> {
         ensures { result ≡ place_told (told self.now) }
     {
         match self {
-            Series::Trade { place, .. } => *place,
-            Series::Forecast { place, .. } => *place,
+            Series::Trade { place, .. } | Series::Forecast { place, .. } => *place,
         }
     }
 
@@ -100,8 +98,7 @@ impl<'a> Series<'a> {
         ensures { result.now ≡ bytes_of (told self.now) }
     {
         match self {
-            Series::Trade { values, .. } => *values,
-            Series::Forecast { values, .. } => *values,
+            Series::Trade { values, .. } | Series::Forecast { values, .. } => *values,
         }
     }
 

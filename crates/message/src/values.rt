@@ -1,33 +1,28 @@
 //! Which values a message may have.
-ghost use Rattle.std.specs.Prelude.{◌≡◌, ◌<◌, is_ok, Some};
-ghost use Rattle.message.specs.Form.{Formed, series_count, kind_at, counter_at};
+ghost use Rattle.std.specs.Prelude.{◌≡◌, ◌<◌, false, is_ok, true, Some};
+ghost use Rattle.message.specs.Form.{series_count, kind_at, counter_at};
 ghost use Rattle.message.specs.Places.{place_under};
 ghost use Rattle.message.specs.Told.{is_forecast};
 ghost use Rattle.message.specs.Values.{in_series, in_message, range_check, forecast_check, opposed_check, values_check};
 
-use crate::{Head, MessageReader, place};
+use crate::{Head, Message, place};
 use forms::bounds::POWER_BOUND;
 use forms::bytes::be32_at;
+use forms::checks::in_order;
 use forms::fault::Fault;
-
-/// The kind of a trade out.
-const OUT: u8 = 1;
-
-/// The kind of a trade in.
-const IN: u8 = 2;
+use forms::slot::{CONS, IN, OUT, PUMP};
 
 /// Kinds 3 to 5 are forecasts.
 fn is_forecast(kind: u8) -> bool
     ensures { result ≡ is_forecast kind }
 {
-    matches!(kind, 3..=5)
+    matches!(kind, CONS..=PUMP)
 }
 
-impl<'a> MessageReader<'a> {
+impl<'a> Message<'a> {
     /// Whether no value of series `i` is above the bound, in one plain pass.
     fn is_within(&self, i: u8) -> bool
-        requires formed { Formed self.now.quarters self.now.bytes.now }
-        requires there { i < series_count self.now.bytes.now }
+        requires { i < series_count self.now.bytes.now }
         ensures { result ≡ is_ok (in_series self.now.quarters (range_check self.now.quarters self.now.bytes.now) i) }
     {
         let values = self.values(i);
@@ -38,49 +33,63 @@ impl<'a> MessageReader<'a> {
         within
     }
 
-    /// No value of series `i` is above the bound.
-    fn check_range(&self, i: u8) -> Result<(), Fault>
-        requires formed { Formed self.now.quarters self.now.bytes.now }
+    /// The value of series `i` at `t` is not above the bound.
+    fn check_bound(&self, i: u8, t: u8) -> Result<(), Fault>
         requires there { i < series_count self.now.bytes.now }
+        requires within { t < self.now.quarters }
+        ensures { result ≡ range_check self.now.quarters self.now.bytes.now i t }
+    {
+        if self.value(i, t) > POWER_BOUND {
+            return Err(Fault::OutOfRange {
+                series: place(i),
+                quarter: place(t),
+            });
+        }
+        Ok(())
+    }
+
+    /// No value of series `i` is above the bound.
+    #[tactic(auto, using(forms::proofs::Firsts::each_in_order))]
+    fn check_range(&self, i: u8) -> Result<(), Fault>
+        requires { i < series_count self.now.bytes.now }
         ensures { result ≡ in_series self.now.quarters (range_check self.now.quarters self.now.bytes.now) i }
     {
         if self.is_within(i) {
             return Ok(());
         }
-        for t in 0..self.quarters {
-            if self.value(i, t) > POWER_BOUND {
-                return Err(Fault::OutOfRange {
-                    series: place(i),
-                    quarter: place(t),
-                });
-            }
+        in_order(self.quarters, |t| self.check_bound(i, t))
+    }
+
+    /// The value of a forecast `i` at `t` is 0, as it is to be without metering points.
+    fn check_zero(&self, i: u8, t: u8) -> Result<(), Fault>
+        requires there { i < series_count self.now.bytes.now }
+        requires forecast { is_forecast (kind_at self.now.bytes.now i) ≡ true }
+        requires within { t < self.now.quarters }
+        ensures { result ≡ forecast_check self.now.quarters false self.now.bytes.now i t }
+    {
+        if self.value(i, t) > 0 {
+            return Err(Fault::UnmeteredForecast {
+                series: place(i),
+                quarter: place(t),
+            });
         }
         Ok(())
     }
 
     /// Series `i` is no forecast above 0 of a group without metering points.
+    #[tactic(auto, using(forms::proofs::Firsts::each_in_order, crate::proofs::Passes::forecast_metered, crate::proofs::Passes::forecast_other))]
     fn check_forecast(&self, metered: bool, i: u8) -> Result<(), Fault>
-        requires formed { Formed self.now.quarters self.now.bytes.now }
-        requires there { i < series_count self.now.bytes.now }
+        requires { i < series_count self.now.bytes.now }
         ensures { result ≡ in_series self.now.quarters (forecast_check self.now.quarters metered self.now.bytes.now) i }
     {
         if metered || !is_forecast(self.head(i).kind) {
             return Ok(());
         }
-        for t in 0..self.quarters {
-            if self.value(i, t) > 0 {
-                return Err(Fault::UnmeteredForecast {
-                    series: place(i),
-                    quarter: place(t),
-                });
-            }
-        }
-        Ok(())
+        in_order(self.quarters, |t| self.check_zero(i, t))
     }
 
     /// Whether series `i`, a trade out, and its opposite are never above 0 at once, in one plain pass.
     fn is_unopposed(&self, i: u8, opposite: u8) -> bool
-        requires formed { Formed self.now.quarters self.now.bytes.now }
         requires there { (i < series_count self.now.bytes.now) × (opposite < series_count self.now.bytes.now) }
         requires out { kind_at self.now.bytes.now i ≡ 1 }
         requires into { place_under self.now.bytes.now 2 (counter_at self.now.bytes.now i) ≡ Some opposite }
@@ -95,11 +104,29 @@ impl<'a> MessageReader<'a> {
         unopposed
     }
 
+    /// The trade out `i` and its opposite are not both above 0 at `t`. The out series is named.
+    #[tactic(auto, using(crate::proofs::Stated::value_found))]
+    fn check_unopposed(&self, i: u8, opposite: u8, t: u8) -> Result<(), Fault>
+        requires there { (i < series_count self.now.bytes.now) × (opposite < series_count self.now.bytes.now) }
+        requires out { kind_at self.now.bytes.now i ≡ 1 }
+        requires into { place_under self.now.bytes.now 2 (counter_at self.now.bytes.now i) ≡ Some opposite }
+        requires within { t < self.now.quarters }
+        ensures { result ≡ opposed_check self.now.quarters self.now.bytes.now i t }
+    {
+        if self.value(i, t) > 0 && self.value(opposite, t) > 0 {
+            return Err(Fault::OpposedTrades {
+                series: place(i),
+                quarter: place(t),
+            });
+        }
+        Ok(())
+    }
+
     /// Series `i` is no trade out with a trade in from the same group at once. The out series is
     /// named.
+    #[tactic(auto, using(forms::proofs::Firsts::each_in_order, crate::proofs::Passes::opposed_other, crate::proofs::Passes::opposed_alone))]
     fn check_trade(&self, i: u8) -> Result<(), Fault>
-        requires formed { Formed self.now.quarters self.now.bytes.now }
-        requires there { i < series_count self.now.bytes.now }
+        requires { i < series_count self.now.bytes.now }
         ensures { result ≡ in_series self.now.quarters (opposed_check self.now.quarters self.now.bytes.now) i }
     {
         let Head { kind, counter } = self.head(i);
@@ -112,55 +139,36 @@ impl<'a> MessageReader<'a> {
         if self.is_unopposed(i, opposite) {
             return Ok(());
         }
-        let series = place(i);
-        for t in 0..self.quarters {
-            if self.value(i, t) > 0 && self.value(opposite, t) > 0 {
-                return Err(Fault::OpposedTrades {
-                    series,
-                    quarter: place(t),
-                });
-            }
-        }
-        Ok(())
+        in_order(self.quarters, |t| self.check_unopposed(i, opposite, t))
     }
 
     /// No value of the message is above the bound.
+    #[tactic(auto, using(forms::proofs::Firsts::each_in_order))]
     fn check_ranges(&self) -> Result<(), Fault>
-        requires { Formed self.now.quarters self.now.bytes.now }
         ensures { result ≡ in_message self.now.quarters self.now.bytes.now (range_check self.now.quarters self.now.bytes.now) }
     {
-        for i in 0..self.count() {
-            self.check_range(i)?;
-        }
-        Ok(())
+        in_order(self.count(), |i| self.check_range(i))
     }
 
     /// No series is a forecast above 0 of a group without metering points.
+    #[tactic(auto, using(forms::proofs::Firsts::each_in_order))]
     fn check_forecasts(&self, metered: bool) -> Result<(), Fault>
-        requires { Formed self.now.quarters self.now.bytes.now }
         ensures { result ≡ in_message self.now.quarters self.now.bytes.now (forecast_check self.now.quarters metered self.now.bytes.now) }
     {
-        for i in 0..self.count() {
-            self.check_forecast(metered, i)?;
-        }
-        Ok(())
+        in_order(self.count(), |i| self.check_forecast(metered, i))
     }
 
     /// No trade out has a trade in from the same group at once.
+    #[tactic(auto, using(forms::proofs::Firsts::each_in_order))]
     fn check_trades(&self) -> Result<(), Fault>
-        requires { Formed self.now.quarters self.now.bytes.now }
         ensures { result ≡ in_message self.now.quarters self.now.bytes.now (opposed_check self.now.quarters self.now.bytes.now) }
     {
-        for i in 0..self.count() {
-            self.check_trade(i)?;
-        }
-        Ok(())
+        in_order(self.count(), |i| self.check_trade(i))
     }
 
     /// No value is above the bound, a group without metering points forecasts nothing above 0, and
     /// no trades out to a group and in from it are above 0 at once.
     pub fn check_values(&self, metered: bool) -> Result<(), Fault>
-        requires { Formed self.now.quarters self.now.bytes.now }
         ensures { result ≡ values_check self.now.quarters metered self.now.bytes.now }
     {
         self.check_ranges()?;

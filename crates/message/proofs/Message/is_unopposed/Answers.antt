@@ -4,15 +4,15 @@ use Rattle.forms.specs.Checks.{each_of}
 use Rattle.message.specs.Values.{opposed_check}
 use Rattle.message.proofs.Passes.{ok_none, ok_more, opposed_ok}
 use Rattle.message.proofs.Spans.{value_of_bytes, length_values}
-use Rattle.message.proofs.MessageReader.is_unopposed.Goals as goal
+use Rattle.message.proofs.Message.is_unopposed.Goals as goal
 
 pub be32_at-requires : goal.be32_at-requires
 be32_at-requires c =
-    omega (arith, ap length c.values-out.ensures, length_values c.args.self.now.quarters c.args.self.now.bytes.now c.args.i c.requires.formed c.requires.there.0)
+    omega (arith, ap length c.values-out.ensures, length_values c.args.self.now.quarters c.args.self.now.bytes.now c.args.i c.args.self.now.formed c.requires.there.0)
 
 pub be32_at-requires-in-loop-t : goal.be32_at-requires-in-loop-t
 be32_at-requires-in-loop-t c =
-    omega (arith, ap length c.values-into.ensures, length_values c.args.self.now.quarters c.args.self.now.bytes.now c.args.opposite c.requires.formed c.requires.there.1)
+    omega (arith, ap length c.values-into.ensures, length_values c.args.self.now.quarters c.args.self.now.bytes.now c.args.opposite c.args.self.now.formed c.requires.there.1)
 
 pub loop-t-init : goal.loop-t-init
 loop-t-init c = ok_none _

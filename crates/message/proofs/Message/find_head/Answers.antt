@@ -1,7 +1,7 @@
 use Rattle.std.proofs.Common.{rules}
 use Rattle.message.specs.Places.{place_under}
 use Rattle.message.proofs.Search.{first_at}
-use Rattle.message.proofs.MessageReader.find_head.Goals as goal
+use Rattle.message.proofs.Message.find_head.Goals as goal
 
 pub returns : goal.returns
 unfolding place_under

@@ -1,7 +1,7 @@
 use Rattle.std.proofs.Common.{sym, arith, rules}
 use Rattle.std.proofs.lemmas.Bool.Decides.{nat_tests}
 use Rattle.message.proofs.Search.{first_none, first_more, first_found}
-use Rattle.message.proofs.MessageReader.first_below.Goals as goal
+use Rattle.message.proofs.Message.first_below.Goals as goal
 
 pub loop-i-init : goal.loop-i-init
 loop-i-init c = first_none _

@@ -1,7 +1,7 @@
 use Rattle.std.proofs.Common.{◌≡◌, is_ok}
 use Rattle.forms.specs.Checks.{each_of}
 use Rattle.message.specs.Values.{range_check}
-use Rattle.message.proofs.MessageReader.is_within.Given as goal
+use Rattle.message.proofs.Message.is_within.Given as goal
 
 abbrev pub invariant-loop-t : goal.invariant-loop-t
 invariant-loop-t l = l.within ≡ is_ok (each_of (range_check l.self.quarters l.self.bytes.now l.i) l.t)

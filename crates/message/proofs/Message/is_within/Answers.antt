@@ -4,11 +4,11 @@ use Rattle.forms.specs.Checks.{each_of}
 use Rattle.message.specs.Values.{range_check}
 use Rattle.message.proofs.Passes.{ok_none, ok_more, range_ok}
 use Rattle.message.proofs.Spans.{value_of_bytes, length_values}
-use Rattle.message.proofs.MessageReader.is_within.Goals as goal
+use Rattle.message.proofs.Message.is_within.Goals as goal
 
 pub be32_at-requires : goal.be32_at-requires
 be32_at-requires c =
-    omega (arith, ap length c.values-values.ensures, length_values c.args.self.now.quarters c.args.self.now.bytes.now c.args.i c.requires.formed c.requires.there)
+    omega (arith, ap length c.values-values.ensures, length_values c.args.self.now.quarters c.args.self.now.bytes.now c.args.i c.args.self.now.formed c.requires)
 
 pub loop-t-init : goal.loop-t-init
 loop-t-init c = ok_none _

@@ -1,0 +1,57 @@
+//! Bytes that may be a message.
+ghost use Rattle.std.specs.Prelude.{◌≡◌, IfOk, OnOk};
+ghost use Rattle.forms.specs.Checks.{verdict};
+ghost use Rattle.message.specs.Form.{Formed, header_of};
+
+use crate::{HEADER, Header, Message};
+use forms::fault::Fault;
+
+/// Bytes that are to be read as a message for a day of `quarters` quarter hours.
+#[derive(Clone, Copy)]
+pub struct MessageReader<'a> {
+    bytes: &'a [u8],
+    quarters: u8,
+}
+
+impl<'a> MessageReader<'a> {
+    /// A reader of `bytes`, for a day of `quarters` quarter hours.
+    pub fn new(bytes: &'a [u8], quarters: u8) -> MessageReader<'a>
+        ensures bytes { result.bytes.now ≡ bytes.now }
+        ensures quarters { result.quarters ≡ quarters }
+    {
+        MessageReader { bytes, quarters }
+    }
+
+    /// The message, once the length is what its sizes give.
+    pub fn message(&self) -> Result<Message<'a>, Fault>
+        ensures value { verdict result ≡ verdict (header_of self.now.quarters self.now.bytes.now) }
+        ensures bytes { IfOk result (λ message. message.bytes.now ≡ self.now.bytes.now) }
+        ensures quarters { IfOk result (λ message. message.quarters ≡ self.now.quarters) }
+    {
+        let bytes = self.bytes;
+        if bytes.len() < HEADER {
+            return Err(Fault::ShortForm);
+        }
+        if bytes[1] != self.quarters {
+            return Err(Fault::WrongSize);
+        }
+        let series = bytes[0] as usize;
+        let quarters = bytes[1] as usize;
+        if bytes.len() != HEADER + 2 * series + 4 * (series * quarters) {
+            return Err(Fault::WrongLength);
+        }
+        Ok(Message {
+            bytes,
+            quarters: self.quarters,
+        })
+    }
+
+    /// The header, once the length is what its sizes give.
+    pub fn header(&self) -> Result<Header, Fault>
+        ensures value { result ≡ header_of self.now.quarters self.now.bytes.now }
+        ensures formed { OnOk result (Formed self.now.quarters self.now.bytes.now) }
+    {
+        let message = self.message()?;
+        Ok(message.header())
+    }
+}
