@@ -1,7 +1,7 @@
 //! A group's trades of a whole day at once. Quarter hours count from 0.
 ghost use Rattle.std.specs.Prelude.{◌≡◌, ℕ, ◌+◌, ◌*◌, ◌^◌, ◌<◌, ◌≤◌, length, pos, ◌-ℤ◌, slice_index, unsigned_abs};
 ghost use Rattle.forms.specs.Slots.{slot_of, cons};
-ghost use Rattle.settlement.specs.Days.{day_net};
+ghost use Rattle.settlement.specs.Days.{day_net, HasRoom, Grows, Adds, with_others};
 ghost use Rattle.settlement.specs.Positions.{confirmed, net_purchases, stated_with};
 ghost use Rattle.settlement.specs.Sheets.{words_per_slot, Within};
 ghost use Rattle.settlement.specs.Statements.{statements};
@@ -30,6 +30,29 @@ impl DayTrades {
     {
         self.taken[t] as i64 - self.given[t] as i64
     }
+
+    /// The trades of group `own` with all others: `add` adds those with one of them to what is taken and
+    /// to what is given.
+    pub fn with_others<F: Fn(usize, &mut [u64], &mut [u64])>(
+        groups: usize,
+        own: usize,
+        add: F,
+    ) -> DayTrades
+        requires few { groups ≤ 16 }
+        requires called { (b : ℕ) (x y : _) → b < groups → HasRoom x.now → HasRoom y.now → F.pre add b x y }
+        requires low { (b : ℕ) (x y u v : _) → b < groups → F.post add b x y tt u v → Grows x.now u.now × Grows y.now v.now }
+        ensures { (q : ℕ) (i o : ℕ → ℕ → ℕ) → ((b : ℕ) (x y u v : _) → b < groups → F.post add b x y tt u v → Adds q (i b) x.now u.now × Adds q (o b) y.now v.now)
+            → (t : ℕ) → t < q → day_net result.taken result.given t ≡ with_others (λ b. pos (i b t) -ℤ pos (o b t)) own groups }
+    {
+        let mut taken = [0; WORDS_PER_SLOT];
+        let mut given = [0; WORDS_PER_SLOT];
+        for b in 0..groups {
+            if b != own {
+                add(b, &mut taken, &mut given);
+            }
+        }
+        DayTrades { taken, given }
+    }
 }
 
 impl WholeSheet<'_, '_> {
@@ -55,16 +78,10 @@ impl WholeSheet<'_, '_> {
         requires { a < self.now.groups }
         ensures { (t : ℕ) → t < words_per_slot → day_net result.taken result.given t ≡ stated_with (statements self.now) t a self.now.groups }
     {
-        let mut taken = [0; WORDS_PER_SLOT];
-        let mut given = [0; WORDS_PER_SLOT];
-        for b in 0..self.groups {
-            if b == a {
-                continue;
-            }
-            self.add_slot(a, Slot::InFrom(b as u8), &mut taken);
-            self.add_slot(a, Slot::OutTo(b as u8), &mut given);
-        }
-        DayTrades { taken, given }
+        DayTrades::with_others(self.groups, a, |b, taken, given| {
+            self.add_slot(a, Slot::InFrom(b as u8), taken);
+            self.add_slot(a, Slot::OutTo(b as u8), given);
+        })
     }
 
     // Adds the confirmed trade from group `a` to group `b` to a day's sums.
@@ -91,16 +108,10 @@ impl WholeSheet<'_, '_> {
         requires { a < self.now.groups }
         ensures { (t : ℕ) → t < words_per_slot → day_net result.taken result.given t ≡ net_purchases (statements self.now) self.now.groups t a }
     {
-        let mut taken = [0; WORDS_PER_SLOT];
-        let mut given = [0; WORDS_PER_SLOT];
-        for b in 0..self.groups {
-            if b == a {
-                continue;
-            }
-            self.add_trade(b, a, &mut taken);
-            self.add_trade(a, b, &mut given);
-        }
-        DayTrades { taken, given }
+        DayTrades::with_others(self.groups, a, |b, taken, given| {
+            self.add_trade(b, a, taken);
+            self.add_trade(a, b, given);
+        })
     }
 
     /// The check value of group `a` in a quarter hour, by its trades of the day: less consumption.
