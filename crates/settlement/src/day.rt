@@ -7,6 +7,7 @@ ghost use Rattle.settlement.specs.Sheets.{words_per_slot, Within};
 ghost use Rattle.settlement.specs.Statements.{statements};
 
 use crate::sheet::{WORDS_PER_SLOT, WholeSheet, slot_place};
+use crate::words::add_words;
 use forms::slot::Slot;
 
 /// The trades of a group for each quarter hour, as two sums: what it takes, and what it gives. Only
@@ -59,17 +60,14 @@ impl WholeSheet<'_, '_> {
     // Adds a slot's words to a day's sums; a slot not sent adds nothing.
     fn add_slot(&self, group: usize, slot: Slot, sums: &mut [u64])
         requires within { (group < self.now.groups) × (Within self.now.groups (slot_of slot)) }
-        requires room { (length sums.old ≡ words_per_slot) × (((t : ℕ) → slice_index sums.old t ≤ 2 ^ 40)) }
-        ensures value { (t : ℕ) → t < words_per_slot → slice_index sums.new t ≡ slice_index sums.old t + statements self.now group (slot_of slot) t }
-        ensures bound { (t : ℕ) → slice_index sums.new t ≤ slice_index sums.old t + 2 ^ 32 }
+        requires room { HasRoom sums.old }
+        ensures value { Adds words_per_slot (statements self.now group (slot_of slot)) sums.old sums.new }
+        ensures bound { Grows sums.old sums.new }
     {
         let place = slot_place(self.groups, group, slot);
-        if !self.sent[place] {
-            return;
-        }
-        let at = place * WORDS_PER_SLOT;
-        for t in 0..WORDS_PER_SLOT {
-            sums[t] += u64::from(self.words[at + t]);
+        if self.sent[place] {
+            let at = place * WORDS_PER_SLOT;
+            add_words(sums, |t| self.words[at + t]);
         }
     }
 
@@ -87,19 +85,16 @@ impl WholeSheet<'_, '_> {
     // Adds the confirmed trade from group `a` to group `b` to a day's sums.
     fn add_trade(&self, a: usize, b: usize, sums: &mut [u64])
         requires within { (a < self.now.groups) × (b < self.now.groups) }
-        requires room { (length sums.old ≡ words_per_slot) × (((t : ℕ) → slice_index sums.old t ≤ 2 ^ 40)) }
-        ensures value { (t : ℕ) → t < words_per_slot → slice_index sums.new t ≡ slice_index sums.old t + confirmed (statements self.now) t a b }
-        ensures bound { (t : ℕ) → slice_index sums.new t ≤ slice_index sums.old t + 2 ^ 32 }
+        requires room { HasRoom sums.old }
+        ensures value { Adds words_per_slot (λ t. confirmed (statements self.now) t a b) sums.old sums.new }
+        ensures bound { Grows sums.old sums.new }
     {
         let out = slot_place(self.groups, a, Slot::OutTo(b as u8));
         let into = slot_place(self.groups, b, Slot::InFrom(a as u8));
-        if !self.sent[out] || !self.sent[into] {
-            return;
-        }
-        let from = out * WORDS_PER_SLOT;
-        let to = into * WORDS_PER_SLOT;
-        for t in 0..WORDS_PER_SLOT {
-            sums[t] += u64::from(self.words[from + t].min(self.words[to + t]));
+        if self.sent[out] && self.sent[into] {
+            let from = out * WORDS_PER_SLOT;
+            let to = into * WORDS_PER_SLOT;
+            add_words(sums, |t| self.words[from + t].min(self.words[to + t]));
         }
     }
 
