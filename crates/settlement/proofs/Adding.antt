@@ -5,25 +5,9 @@ use Rattle.std.proofs.lemmas.List.{get_or-set_same, get_or-set_other}
 use Rattle.settlement.specs.Days.{day_net}
 use Rattle.std.proofs.lemmas.Bool.{cases_eq, cases_lt, lt-ltb, le-ltb, cond-true, cond-false}
 
--- the words from a place on
-unfoldable pub words_from : List ℕ → ℕ → ℕ → ℕ
-words_from ws at t = get_or ws (at + t) 0
-
--- the lower of the words from two places on
-unfoldable pub lower_from : List ℕ → ℕ → ℕ → ℕ → ℕ
-lower_from ws from to t = min (get_or ws (from + t) 0) (get_or ws (to + t) 0)
-
 -- the sums once f 0, f 1, .., f (n - 1) are added
 unfoldable pub added : List ℕ → (ℕ → ℕ) → ℕ → ℕ → ℕ
 added xs f n k = cond (ltb k n) (get_or xs k 0 + f k) (get_or xs k 0)
-
-pub words_at : (ws : List ℕ) (at t : ℕ) → get_or ws (at + t) 0 ≡ words_from ws at t
-unfolding words_from
-words_at ws at t = refl
-
-pub lower_at : (ws : List ℕ) (from to t : ℕ) → min (get_or ws (from + t) 0) (get_or ws (to + t) 0) ≡ lower_from ws from to t
-unfolding lower_from
-lower_at ws from to t = refl
 
 module _ (xs : List ℕ) (f : ℕ → ℕ) where
   pub added_yes : (n k : ℕ) → k < n → added xs f n k ≡ get_or xs k 0 + f k

@@ -46,18 +46,27 @@ pub on_sheet_unsent : (g : ℕ) (sent : List Bool) (words : List ℕ) (a : ℕ) 
 unfolding on_sheet
 on_sheet_unsent g sent words a s t e = rw e refl
 
+-- the same at a place that is the slot's
+module _ (g : ℕ) (sent : List Bool) (words : List ℕ) (a : ℕ) (s : Slot) (t p : ℕ) (at : p ≡ slot_place g a s) where
+  pub sent_at : get_or sent p false ≡ true → get_or words (p * words_per_slot + t) 0 ≡ on_sheet g sent words a s t
+  sent_at e =
+      ap (λ q. get_or words (q * words_per_slot + t) 0) at
+      ∙ sym (on_sheet_sent g sent words a s t (ap (λ q. get_or sent q false) (sym at) ∙ e))
+
+  pub unsent_at : get_or sent p false ≡ false → on_sheet g sent words a s t ≡ 0
+  unsent_at e = on_sheet_unsent g sent words a s t (ap (λ q. get_or sent q false) (sym at) ∙ e)
+
 -- a confirmed trade where both sides have sent theirs, and where one has not
-module _ (g : ℕ) (sent : List Bool) (words : List ℕ) (t a b : ℕ) where
-  pub confirmed_sent : get_or sent (slot_place g a (out_to b)) false ≡ true → get_or sent (slot_place g b (in_from a)) false ≡ true
-      → confirmed (on_sheet g sent words) t a b
-      ≡ min (get_or words (slot_place g a (out_to b) * words_per_slot + t) 0) (get_or words (slot_place g b (in_from a) * words_per_slot + t) 0)
+module _ (g : ℕ) (sent : List Bool) (words : List ℕ) (t a b p q : ℕ) (out : p ≡ slot_place g a (out_to b)) (into : q ≡ slot_place g b (in_from a)) where
+  pub confirmed_at : get_or sent p false ≡ true → get_or sent q false ≡ true
+      → min (get_or words (p * words_per_slot + t) 0) (get_or words (q * words_per_slot + t) 0) ≡ confirmed (on_sheet g sent words) t a b
   unfolding confirmed
-  confirmed_sent p q = λ j. min (on_sheet_sent g sent words a (out_to b) t p j) (on_sheet_sent g sent words b (in_from a) t q j)
+  confirmed_at e f = λ j. min (sent_at g sent words a (out_to b) t p out e j) (sent_at g sent words b (in_from a) t q into f j)
 
-  pub confirmed_no_out : get_or sent (slot_place g a (out_to b)) false ≡ false → confirmed (on_sheet g sent words) t a b ≡ 0
+  pub no_out_at : get_or sent p false ≡ false → confirmed (on_sheet g sent words) t a b ≡ 0
   unfolding confirmed
-  confirmed_no_out p = ap (λ x. min x (on_sheet g sent words b (in_from a) t)) (on_sheet_unsent g sent words a (out_to b) t p) ∙ omega arith
+  no_out_at e = let none = unsent_at g sent words a (out_to b) t p out e in omega arith
 
-  pub confirmed_no_in : get_or sent (slot_place g b (in_from a)) false ≡ false → confirmed (on_sheet g sent words) t a b ≡ 0
+  pub no_in_at : get_or sent q false ≡ false → confirmed (on_sheet g sent words) t a b ≡ 0
   unfolding confirmed
-  confirmed_no_in p = ap (λ x. min (on_sheet g sent words a (out_to b) t) x) (on_sheet_unsent g sent words b (in_from a) t p) ∙ omega arith
+  no_in_at e = let none = unsent_at g sent words b (in_from a) t q into e in omega arith

@@ -4,18 +4,18 @@ use Rattle.std.proofs.lemmas.Int.{ints}
 use Rattle.std.proofs.lemmas.Bool.{eq-eqb, ne_eqb}
 use Rattle.forms.specs.Slots.{out_to, in_from}
 use Rattle.settlement.specs.Sheets.{Statements}
-use Rattle.settlement.specs.Sums.{sumℤ}
+use Rattle.settlement.specs.Days.{with_others}
 use Rattle.settlement.specs.Positions.{confirmed, confirmed_with, stated_with}
 use Rattle.settlement.proofs.Sums.{sumℤ-none, sumℤ-more}
 
 -- a sum that leaves one term out
-abbrev others : (ℕ → ℤ) → ℕ → ℕ → ℤ
-others f a n = sumℤ (λ b. cond (eqb b a) (pos 0) (f b)) n
+pub others_none : (f : ℕ → ℤ) (a : ℕ) → with_others f a 0 ≡ pos 0
+others_none f a = sumℤ-none _
 
-others_more : (f : ℕ → ℤ) (a n : ℕ) → (n ≡ a → ⊥) → others f a (n + 1) ≡ others f a n +ℤ f n
+pub others_more : (f : ℕ → ℤ) (a n : ℕ) → (n ≡ a → ⊥) → with_others f a (n + 1) ≡ with_others f a n +ℤ f n
 others_more f a n h = sumℤ-more (λ b. cond (eqb b a) (pos 0) (f b)) n ∙ rw (ne_eqb n a h) refl
 
-others_skip : (f : ℕ → ℤ) (a n : ℕ) → n ≡ a → others f a (n + 1) ≡ others f a n
+pub others_skip : (f : ℕ → ℤ) (a n : ℕ) → n ≡ a → with_others f a (n + 1) ≡ with_others f a n
 others_skip f a n h = sumℤ-more (λ b. cond (eqb b a) (pos 0) (f b)) n ∙ rw (eq-eqb n a h) (omega (arith, ints))
 
 module _ (S : Statements) (t a : ℕ) where

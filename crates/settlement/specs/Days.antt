@@ -1,6 +1,24 @@
 -- The trades of a whole day, as two lists of sums.
-use Rattle.std.specs.Prelude.{ℕ, List, ℤ, pos, ◌-ℤ◌, slice_index}
+use Rattle.std.specs.Prelude.{◌≡◌, ℕ, ◌+◌, ◌^◌, ◌<◌, ◌≤◌, cond, List, length, ℤ, pos, ◌-ℤ◌, slice_index, ◌==◌}
+use Rattle.settlement.specs.Sheets.{words_per_slot}
+use Rattle.settlement.specs.Sums.{sumℤ}
 
 -- what is taken less what is given, in quarter hour t
 abbrev pub day_net : List ℕ → List ℕ → ℕ → ℤ
 day_net taken given t = pos (slice_index taken t) -ℤ pos (slice_index given t)
+
+-- a list of sums that has room for a slot's words
+abbrev pub HasRoom : List ℕ → Type 0
+HasRoom sums = (length sums ≡ words_per_slot) × ((t : ℕ) → slice_index sums t ≤ 2 ^ 40)
+
+-- the sums after it are as many, and none has grown by more than a word
+abbrev pub Grows : List ℕ → List ℕ → Type 0
+Grows sums after = (length after ≡ length sums) × ((t : ℕ) → slice_index after t ≤ slice_index sums t + 2 ^ 32)
+
+-- in the first q quarter hours these words are added
+abbrev pub Adds : ℕ → (ℕ → ℕ) → List ℕ → List ℕ → Type 0
+Adds q words sums after = (t : ℕ) → t < q → slice_index after t ≡ slice_index sums t + words t
+
+-- f of the first n numbers but a, added
+abbrev pub with_others : (ℕ → ℤ) → ℕ → ℕ → ℤ
+with_others f a n = sumℤ (λ b. cond (b == a) (pos 0) (f b)) n

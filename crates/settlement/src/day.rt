@@ -1,12 +1,13 @@
 //! A group's trades of a whole day at once. Quarter hours count from 0.
 ghost use Rattle.std.specs.Prelude.{◌≡◌, ℕ, ◌+◌, ◌*◌, ◌^◌, ◌<◌, ◌≤◌, length, pos, ◌-ℤ◌, slice_index, unsigned_abs};
 ghost use Rattle.forms.specs.Slots.{slot_of, cons};
-ghost use Rattle.settlement.specs.Days.{day_net};
+ghost use Rattle.settlement.specs.Days.{day_net, HasRoom, Grows, Adds, with_others};
 ghost use Rattle.settlement.specs.Positions.{confirmed, net_purchases, stated_with};
 ghost use Rattle.settlement.specs.Sheets.{words_per_slot, Within};
 ghost use Rattle.settlement.specs.Statements.{statements};
 
 use crate::sheet::{WORDS_PER_SLOT, WholeSheet, slot_place};
+use crate::words::add_words;
 use forms::slot::Slot;
 
 /// The trades of a group for each quarter hour, as two sums: what it takes, and what it gives. Only
@@ -30,23 +31,43 @@ impl DayTrades {
     {
         self.taken[t] as i64 - self.given[t] as i64
     }
+
+    /// The trades of group `own` with all others: `add` adds those with one of them to what is taken and
+    /// to what is given.
+    pub fn with_others<F: Fn(usize, &mut [u64], &mut [u64])>(
+        groups: usize,
+        own: usize,
+        add: F,
+    ) -> DayTrades
+        requires few { groups ≤ 16 }
+        requires called { (b : ℕ) (x y : _) → b < groups → HasRoom x.now → HasRoom y.now → F.pre add b x y }
+        requires low { (b : ℕ) (x y u v : _) → b < groups → F.post add b x y tt u v → Grows x.now u.now × Grows y.now v.now }
+        ensures { (q : ℕ) (i o : ℕ → ℕ → ℕ) → ((b : ℕ) (x y u v : _) → b < groups → F.post add b x y tt u v → Adds q (i b) x.now u.now × Adds q (o b) y.now v.now)
+            → (t : ℕ) → t < q → day_net result.taken result.given t ≡ with_others (λ b. pos (i b t) -ℤ pos (o b t)) own groups }
+    {
+        let mut taken = [0; WORDS_PER_SLOT];
+        let mut given = [0; WORDS_PER_SLOT];
+        for b in 0..groups {
+            if b != own {
+                add(b, &mut taken, &mut given);
+            }
+        }
+        DayTrades { taken, given }
+    }
 }
 
 impl WholeSheet<'_, '_> {
     // Adds a slot's words to a day's sums; a slot not sent adds nothing.
     fn add_slot(&self, group: usize, slot: Slot, sums: &mut [u64])
         requires within { (group < self.now.groups) × (Within self.now.groups (slot_of slot)) }
-        requires room { (length sums.old ≡ words_per_slot) × (((t : ℕ) → slice_index sums.old t ≤ 2 ^ 40)) }
-        ensures value { (t : ℕ) → t < words_per_slot → slice_index sums.new t ≡ slice_index sums.old t + statements self.now group (slot_of slot) t }
-        ensures bound { (t : ℕ) → slice_index sums.new t ≤ slice_index sums.old t + 2 ^ 32 }
+        requires room { HasRoom sums.old }
+        ensures value { Adds words_per_slot (statements self.now group (slot_of slot)) sums.old sums.new }
+        ensures bound { Grows sums.old sums.new }
     {
         let place = slot_place(self.groups, group, slot);
-        if !self.sent[place] {
-            return;
-        }
-        let at = place * WORDS_PER_SLOT;
-        for t in 0..WORDS_PER_SLOT {
-            sums[t] += u64::from(self.words[at + t]);
+        if self.sent[place] {
+            let at = place * WORDS_PER_SLOT;
+            add_words(sums, |t| self.words[at + t]);
         }
     }
 
@@ -55,34 +76,25 @@ impl WholeSheet<'_, '_> {
         requires { a < self.now.groups }
         ensures { (t : ℕ) → t < words_per_slot → day_net result.taken result.given t ≡ stated_with (statements self.now) t a self.now.groups }
     {
-        let mut taken = [0; WORDS_PER_SLOT];
-        let mut given = [0; WORDS_PER_SLOT];
-        for b in 0..self.groups {
-            if b == a {
-                continue;
-            }
-            self.add_slot(a, Slot::InFrom(b as u8), &mut taken);
-            self.add_slot(a, Slot::OutTo(b as u8), &mut given);
-        }
-        DayTrades { taken, given }
+        DayTrades::with_others(self.groups, a, |b, taken, given| {
+            self.add_slot(a, Slot::InFrom(b as u8), taken);
+            self.add_slot(a, Slot::OutTo(b as u8), given);
+        })
     }
 
     // Adds the confirmed trade from group `a` to group `b` to a day's sums.
     fn add_trade(&self, a: usize, b: usize, sums: &mut [u64])
         requires within { (a < self.now.groups) × (b < self.now.groups) }
-        requires room { (length sums.old ≡ words_per_slot) × (((t : ℕ) → slice_index sums.old t ≤ 2 ^ 40)) }
-        ensures value { (t : ℕ) → t < words_per_slot → slice_index sums.new t ≡ slice_index sums.old t + confirmed (statements self.now) t a b }
-        ensures bound { (t : ℕ) → slice_index sums.new t ≤ slice_index sums.old t + 2 ^ 32 }
+        requires room { HasRoom sums.old }
+        ensures value { Adds words_per_slot (λ t. confirmed (statements self.now) t a b) sums.old sums.new }
+        ensures bound { Grows sums.old sums.new }
     {
         let out = slot_place(self.groups, a, Slot::OutTo(b as u8));
         let into = slot_place(self.groups, b, Slot::InFrom(a as u8));
-        if !self.sent[out] || !self.sent[into] {
-            return;
-        }
-        let from = out * WORDS_PER_SLOT;
-        let to = into * WORDS_PER_SLOT;
-        for t in 0..WORDS_PER_SLOT {
-            sums[t] += u64::from(self.words[from + t].min(self.words[to + t]));
+        if self.sent[out] && self.sent[into] {
+            let from = out * WORDS_PER_SLOT;
+            let to = into * WORDS_PER_SLOT;
+            add_words(sums, |t| self.words[from + t].min(self.words[to + t]));
         }
     }
 
@@ -91,16 +103,10 @@ impl WholeSheet<'_, '_> {
         requires { a < self.now.groups }
         ensures { (t : ℕ) → t < words_per_slot → day_net result.taken result.given t ≡ net_purchases (statements self.now) self.now.groups t a }
     {
-        let mut taken = [0; WORDS_PER_SLOT];
-        let mut given = [0; WORDS_PER_SLOT];
-        for b in 0..self.groups {
-            if b == a {
-                continue;
-            }
-            self.add_trade(b, a, &mut taken);
-            self.add_trade(a, b, &mut given);
-        }
-        DayTrades { taken, given }
+        DayTrades::with_others(self.groups, a, |b, taken, given| {
+            self.add_trade(b, a, taken);
+            self.add_trade(a, b, given);
+        })
     }
 
     /// The check value of group `a` in a quarter hour, by its trades of the day: less consumption.

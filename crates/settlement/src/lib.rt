@@ -9,3 +9,4 @@ pub mod positions;
 pub mod sheet;
 pub mod theorems;
 pub mod trades;
+pub mod words;

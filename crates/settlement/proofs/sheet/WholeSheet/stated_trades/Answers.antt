@@ -1,24 +1,12 @@
-use Rattle.std.proofs.Common.{sym, refl, ◌∙◌, arith, rules}
-use Rattle.settlement.proofs.Adding.{blank, net_none, net_more}
-use Rattle.settlement.proofs.Trading.{stated_none, stated_more, stated_skip}
+use Rattle.std.proofs.Common.{rules}
+use Rattle.forms.specs.Slots.{out_to, in_from}
+use Rattle.settlement.specs.Positions.{stated_with}
+use Rattle.settlement.specs.Sheets.{words_per_slot}
+use Rattle.settlement.specs.Statements.{statements}
 use Rattle.settlement.proofs.sheet.WholeSheet.stated_trades.Goals as goal
 
-pub loop-b-init : goal.loop-b-init
-loop-b-init c = (refl, refl, λ t. omega (arith, blank 96 t), λ t. omega (arith, blank 96 t), λ t l. net_none 96 t ∙ sym (stated_none _ t _))
-
-pub loop-b-preserved-then-b-a : goal.loop-b-preserved-then-b-a
-loop-b-preserved-then-b-a c =
-    let inv = c.loop-b.invariant in
-    (inv.0, inv.1, λ t. omega (arith, inv.2 t), λ t. omega (arith, inv.3 t), λ t l. inv.4 t l ∙ sym (stated_skip _ t _ _ (search rules)))
-
-pub loop-b-preserved : goal.loop-b-preserved
-loop-b-preserved c =
-    let inv = c.loop-b.invariant in
-    let taken = c.add_slot.ensures in
-    let given = c.add_slot-in-loop-b.ensures in (
-      search rules,
-      search rules,
-      λ t. omega (arith, inv.2 t, taken.bound t),
-      λ t. omega (arith, inv.3 t, given.bound t),
-      λ t l. net_more _ _ _ _ t _ _ _ (taken.value t l) (given.value t l) (inv.4 t l) ∙ sym (stated_more _ t _ _ (search rules)),
-    )
+pub returns : goal.returns
+unfolding stated_with
+returns c =
+    let S = statements c.args.self.now c.args.a in
+    c.with_others.ensures words_per_slot (λ b t. S (in_from b) t) (λ b t. S (out_to b) t) (λ b x y u v h p. search rules)
