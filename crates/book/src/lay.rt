@@ -10,11 +10,11 @@ use crate::ledger::{FLAGS, Ledger};
 use crate::sending::Sending;
 use crate::slots::slot_at;
 use forms::bytes::be32_at;
-use message::MessageReader;
+use message::Message;
 use settlement::sheet::{WORDS_PER_SLOT, slots_per_group};
 
 /// Writes series `i` into the words of a slot that begins at `at`.
-fn lay_series(message: &MessageReader<'_>, i: u8, quarters: u8, at: usize, sheet: &mut [u32])
+fn lay_series(message: &Message<'_>, i: u8, quarters: u8, at: usize, sheet: &mut [u32])
     requires formed { (Formed message.now.quarters message.now.bytes.now) × (i < series_count message.now.bytes.now) }
     requires room { (quarters ≡ message.now.quarters) × (at + quarters ≤ length sheet.old) }
     ensures { (k : ℕ) → slice_index sheet.new k ≡ series_laid message.now.quarters message.now.bytes.now i at quarters sheet.old k }
@@ -27,7 +27,7 @@ fn lay_series(message: &MessageReader<'_>, i: u8, quarters: u8, at: usize, sheet
 
 impl Ledger {
     /// Writes each series of the message into its slot of the sender.
-    pub(crate) fn lay(&self, message: &MessageReader<'_>, own: usize, sheet: &mut [u32])
+    pub(crate) fn lay(&self, message: &Message<'_>, own: usize, sheet: &mut [u32])
         requires read { Read (state_of self.now) own message.now.quarters message.now.bytes.now }
         requires sheet { length sheet.old ≡ sheet_size (size (state_of self.now)) }
         ensures { sheet.new ≡ sheet_after (size (state_of self.now)) (day_quarters (state_of self.now)) own message.now.bytes.now sheet.old }

@@ -3,13 +3,13 @@ ghost use Rattle.book.specs.Messages.{Read};
 ghost use Rattle.book.specs.States.{state_of};
 
 use crate::open_day::OpenDay;
-use message::MessageReader;
+use message::Message;
 
 /// A message of the right length, with its version, and the place of the group that sends it, from 0.
 #[derive(Clone, Copy)]
 pub struct Sending<'l, 'w, 'm> {
     pub(crate) day: OpenDay<'l, 'w>,
-    pub(crate) message: MessageReader<'m>,
+    pub(crate) message: Message<'m>,
     pub(crate) own: usize,
     pub(crate) version: u16,
     ghost read: { Read (state_of day.ledger.now) own message.quarters message.bytes.now },

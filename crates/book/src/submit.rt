@@ -52,9 +52,9 @@ impl Ledger {
     ) -> Result<Sending<'l, 'w, 'm>, Fault>
         ensures { Finds result (submit_check (state_of self.now) sheet.now form.now) (λ x. (x.day.ledger.now ≡ self.now) × (x.day.sheet.now ≡ sheet.now) × (x.message.bytes.now ≡ form.now) × (x.own ≡ (said form.now).group - 1) × (x.version ≡ (said form.now).version)) }
     {
-        let message = MessageReader::new(form, self.quarters());
-        let header = message.header()?;
+        let message = MessageReader::new(form, self.quarters()).message()?;
         let day = self.open_day(sheet)?;
+        let header = message.header();
         let own = self.check_sender(header)?;
         let sending = Sending {
             day,
