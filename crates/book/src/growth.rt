@@ -4,7 +4,7 @@ ghost use Rattle.forms.specs.Figures.{figures_of};
 ghost use Rattle.forms.specs.Slots.{slot_of, cons};
 ghost use Rattle.message.specs.Places.{stated};
 ghost use Rattle.settlement.specs.declared.phase.Phase.TheVariants.{After};
-ghost use Rattle.settlement.specs.Days.{day_net};
+ghost use Rattle.settlement.specs.Days.{day_net, HasRoom, Grows, Adds};
 ghost use Rattle.settlement.specs.Positions.{stated_with, open_position, excess, as_far_out};
 ghost use Rattle.settlement.specs.Sheets.{words_per_slot};
 ghost use Rattle.book.specs.Messages.{by_message, each_growth, growth_check};
@@ -19,6 +19,7 @@ use settlement::day::DayTrades;
 use settlement::phase::Phase;
 use settlement::positions::{as_far_out, excess, open_position};
 use settlement::sheet::WORDS_PER_SLOT;
+use settlement::words::add_words;
 
 /// A check value: what the day's trades come to in a quarter hour, less consumption.
 fn check_less(trades: &DayTrades, consumption: &[u64], t: usize) -> i64
@@ -50,16 +51,14 @@ impl Sending<'_, '_, '_> {
     /// Adds what the message states for a slot to a day's sums; a slot that it does not have adds
     /// nothing.
     fn add_series(&self, slot: Slot, sums: &mut [u64])
-        requires { (length sums.old ≡ words_per_slot) × (((t : ℕ) → slice_index sums.old t ≤ 2 ^ 40)) }
-        ensures value { (t : ℕ) → t < day_quarters (state_of self.now.day.ledger.now) → slice_index sums.new t ≡ slice_index sums.old t + stated self.now.message.quarters self.now.message.bytes.now (slot_of slot) t }
-        ensures bound { (t : ℕ) → slice_index sums.new t ≤ slice_index sums.old t + 2 ^ 32 }
+        requires { HasRoom sums.old }
+        ensures value { Adds (day_quarters (state_of self.now.day.ledger.now)) (stated self.now.message.quarters self.now.message.bytes.now (slot_of slot)) sums.old sums.new }
+        ensures bound { Grows sums.old sums.new }
     {
-        let Some(i) = self.message.find(slot) else {
-            return;
-        };
-        let values = self.message.values(i);
-        for t in 0..self.day.ledger.quarters() as usize {
-            sums[t] += u64::from(be32_at(values, 4 * t));
+        if let Some(i) = self.message.find(slot) {
+            let values = self.message.values(i);
+            let quarters = self.day.ledger.quarters() as usize;
+            add_words(&mut sums[..quarters], |t| be32_at(values, 4 * t));
         }
     }
 
@@ -67,16 +66,10 @@ impl Sending<'_, '_, '_> {
     fn trades(&self) -> DayTrades
         ensures { (t : ℕ) → t < day_quarters (state_of self.now.day.ledger.now) → day_net result.taken result.given t ≡ stated_with (by_message self.now.own self.now.message.quarters self.now.message.bytes.now) t self.now.own (size (state_of self.now.day.ledger.now)) }
     {
-        let mut taken = [0; WORDS_PER_SLOT];
-        let mut given = [0; WORDS_PER_SLOT];
-        for b in 0..self.day.ledger.groups() {
-            if b == self.own {
-                continue;
-            }
-            self.add_series(Slot::InFrom(b as u8), &mut taken);
-            self.add_series(Slot::OutTo(b as u8), &mut given);
-        }
-        DayTrades { taken, given }
+        DayTrades::with_others(self.day.ledger.groups(), self.own, |b, taken, given| {
+            self.add_series(Slot::InFrom(b as u8), taken);
+            self.add_series(Slot::OutTo(b as u8), given);
+        })
     }
 
     /// The consumption that the message states.
