@@ -1,11 +1,12 @@
 -- What follows once the heads of a message are lawful and none stands twice.
 use Rattle.std.proofs.Common.{◌≡◌, ℕ, ◌+◌, ◌<◌, ◌≤◌, Bool, true, false, not, ◌&&◌, eqb, leb, List, is_some, Some, None, Ok, Option, sym, refl, ap, subst, inl, inr, arith}
 use Rattle.std.proofs.lemmas.Bool.{and_parts, and_from, or_cases, not-true, not-false, eqb-true, eqb-false, eq-eqb, leb-true, cases_eq}
+use Rattle.std.proofs.lemmas.Bool.Decides.{nat_tests}
 use Rattle.forms.specs.Checks.{refuse_if, each_of}
 use Rattle.forms.specs.Slots.{kind_of, counter_of}
 use Rattle.forms.specs.declared.fault.Fault.{Fault}
 use Rattle.forms.specs.declared.fault.Fault.TheVariants.{UnlawfulHead, RepeatedHead}
-use Rattle.forms.proofs.Firsts.{each_passed, and_then_left, and_then_right}
+use Rattle.forms.proofs.Firsts.{each_passed, and_then_left, and_then_right, unrefused, allowed}
 use Rattle.message.specs.Form.{series_count, kind_at, counter_at, value_at}
 use Rattle.message.specs.Told.{is_trade, is_forecast, slot_under, slot_at}
 use Rattle.message.specs.Places.{first_of, head_is, place_under, place_of, sent_in, stated}
@@ -13,14 +14,9 @@ use Rattle.message.specs.Heads.{names_other, lawful_head, Sendable, head_check, 
 use Rattle.message.proofs.Search.{first_found}
 use Rattle.message.proofs.Stated.{value_found}
 
--- a check that passed did not meet its test
-pub refuse_passed : (b : Bool) (e : Fault) → refuse_if b e ≡ Ok tt → b ≡ false
-refuse_passed false e h = refl
-refuse_passed true e h = absurd (let z : ◌≡◌ {A = ℕ} 0 1 = cc in omega arith)
-
 none_from : (o : Option ℕ) → is_some o ≡ false → o ≡ None
 none_from None h = refl
-none_from (Some i) h = absurd (let z : ◌≡◌ {A = ℕ} 0 1 = cc in omega arith)
+none_from (Some i) h = cc
 
 -- a lawful head is the kind and the counter of a slot that the group may send
 pub record Sent (g own kind counter : ℕ) : Type 0 where
@@ -31,9 +27,7 @@ pub record Sent (g own kind counter : ℕ) : Type 0 where
 module _ (g own counter : ℕ) where
   other_parts : names_other g own counter ≡ true → (1 ≤ counter) × (counter ≤ g) × (counter ≡ own + 1 → ⊥)
   other_parts h =
-      let p = and_parts (leb 1 counter) (leb counter g && not (eqb counter (own + 1))) h in
-      let r = and_parts (leb counter g) (not (eqb counter (own + 1))) p.1 in
-      (leb-true 1 counter p.0, leb-true counter g r.0, eqb-false counter (own + 1) (not-true (eqb counter (own + 1)) r.1))
+      (grind (arith, nat_tests), grind (arith, nat_tests), λ e. grind (arith, nat_tests))
 
   sent_out : names_other g own counter ≡ true → Sent g own 1 counter
   sent_out h = let p = other_parts h in record { kind_is = refl; counter_is = omega (arith, p.0); sendable = (omega (arith, p.0, p.1), λ e. p.2 (omega (arith, p.0))) }
@@ -86,7 +80,7 @@ module _ (g own : ℕ) (s : List ℕ) (passed : heads_check g own s ≡ Ok tt) w
   head_lawful i l =
       let p = and_then_left (each_of (head_check g own s) (series_count s)) (each_of (once_check s) (series_count s)) passed in
       let h = each_passed (head_check g own s) (series_count s) i p l in
-      not-false (lawful_head g own (kind_at s i) (counter_at s i)) (refuse_passed (not (lawful_head g own (kind_at s i) (counter_at s i))) (UnlawfulHead (i + 1)) h)
+      allowed (lawful_head g own (kind_at s i) (counter_at s i)) (UnlawfulHead (i + 1)) h
 
   pub head_sent : (i : ℕ) → i < series_count s → Sent g own (kind_at s i) (counter_at s i)
   head_sent i l = lawful_sent g own (counter_at s i) (kind_at s i) (head_lawful i l)
@@ -95,7 +89,7 @@ module _ (g own : ℕ) (s : List ℕ) (passed : heads_check g own s ≡ Ok tt) w
   none_before : (i : ℕ) → i < series_count s → first_of (head_is s (kind_at s i) (counter_at s i)) i ≡ None
   none_before i l =
       let p = and_then_right (each_of (head_check g own s) (series_count s)) (each_of (once_check s) (series_count s)) passed in
-      none_from (first_of (head_is s (kind_at s i) (counter_at s i)) i) (refuse_passed (repeats s i) (RepeatedHead (i + 1)) (each_passed (once_check s) (series_count s) i p l))
+      none_from (first_of (head_is s (kind_at s i) (counter_at s i)) i) (unrefused (repeats s i) (RepeatedHead (i + 1)) (each_passed (once_check s) (series_count s) i p l))
 
   place_under_head : (i : ℕ) → i < series_count s → place_under s (kind_at s i) (counter_at s i) ≡ Some i
   unfolding place_under
