@@ -29,50 +29,12 @@ module _ (g own counter : ℕ) where
   other_parts h =
       (grind (arith, nat_tests), grind (arith, nat_tests), λ e. grind (arith, nat_tests))
 
-  sent_out : names_other g own counter ≡ true → Sent g own 1 counter
-  sent_out h = let p = other_parts h in record { kind_is = refl; counter_is = omega (arith, p.0); sendable = (omega (arith, p.0, p.1), λ e. p.2 (omega (arith, p.0))) }
-
-  sent_in_from : names_other g own counter ≡ true → Sent g own 2 counter
-  sent_in_from h = let p = other_parts h in record { kind_is = refl; counter_is = omega (arith, p.0); sendable = (omega (arith, p.0, p.1), λ e. p.2 (omega (arith, p.0))) }
-
-  sent_cons : counter ≡ 0 → Sent g own 3 counter
-  sent_cons e = record { kind_is = refl; counter_is = sym e; sendable = tt }
-
-  sent_prod : counter ≡ 0 → Sent g own 4 counter
-  sent_prod e = record { kind_is = refl; counter_is = sym e; sendable = tt }
-
-  sent_pump : counter ≡ 0 → Sent g own 5 counter
-  sent_pump e = record { kind_is = refl; counter_is = sym e; sendable = tt }
-
-  at_kind : (k kind : ℕ) → kind ≡ k → Sent g own k counter → Sent g own kind counter
-  at_kind k kind e h = let P : ℕ → Type 0 = λ n. Sent g own n counter in subst P (sym e) h
-
-  sent_trade : (kind : ℕ) → is_trade kind ≡ true → names_other g own counter ≡ true → Sent g own kind counter
-  sent_trade kind k h =
-      elim (or_cases (eqb kind 1) (eqb kind 2) k) [
-        | inl e ↦ at_kind 1 kind (eqb-true kind 1 e) (sent_out h)
-        | inr e ↦ at_kind 2 kind (eqb-true kind 2 e) (sent_in_from h)
-      ]
-
-  sent_forecast : (kind : ℕ) → is_forecast kind ≡ true → counter ≡ 0 → Sent g own kind counter
-  sent_forecast kind k h =
-      let p = and_parts (leb 3 kind) (leb kind 5) k in
-      let low = leb-true 3 kind p.0 in
-      let high = leb-true kind 5 p.1 in
-      elim (cases_eq kind 3) [
-        | inl e ↦ at_kind 3 kind e (sent_cons h)
-        | inr n ↦ elim (cases_eq kind 4) [
-          | inl e ↦ at_kind 4 kind e (sent_prod h)
-          | inr m ↦ at_kind 5 kind (omega arith) (sent_pump h)
-        ]
-      ]
-
   lawful_sent : (kind : ℕ) → lawful_head g own kind counter ≡ true → Sent g own kind counter
-  lawful_sent kind h =
-      elim (or_cases (is_trade kind && names_other g own counter) (is_forecast kind && eqb counter 0) h) [
-        | inl e ↦ let p = and_parts (is_trade kind) (names_other g own counter) e in sent_trade kind p.0 p.1
-        | inr e ↦ let p = and_parts (is_forecast kind) (eqb counter 0) e in sent_forecast kind p.0 (eqb-true counter 0 p.1)
-      ]
+  lawful_sent kind h = record {
+    kind_is = grind (arith, nat_tests);
+    counter_is = grind (arith, nat_tests);
+    sendable = grind (arith, nat_tests);
+  }
 
 module _ (g own : ℕ) (s : List ℕ) (passed : heads_check g own s ≡ Ok tt) where
   -- each head is that of a slot that the group may send
