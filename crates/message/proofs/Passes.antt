@@ -4,18 +4,13 @@ use Rattle.std.proofs.lemmas.Bool.{and_left, and_right, cond-false}
 use Rattle.std.proofs.lemmas.Bool.Decides.{nat_tests}
 use Rattle.forms.specs.Checks.{Verdict, and_then, refuse_if, each_of}
 use Rattle.forms.specs.declared.fault.Fault.{Fault}
-use Rattle.forms.proofs.Firsts.{each_none, each_more}
+use Rattle.forms.proofs.Firsts.{each_none, each_all}
 use Rattle.forms.specs.Bounds.{power_bound}
 use Rattle.message.specs.Form.{kind_at, counter_at, value_at}
 use Rattle.message.specs.Told.{is_forecast}
 use Rattle.message.specs.Places.{place_under, value_under}
 use Rattle.message.specs.Values.{in_series, range_check, forecast_check, opposed_check}
 use Rattle.message.proofs.Stated.{value_found, value_missing}
-
--- all pass where each does
-pub each_all : (f : ℕ → Verdict) (n : ℕ) → ((k : ℕ) → k < n → f k ≡ Ok tt) → each_of f n ≡ Ok tt
-each_all f zero h = each_none f
-each_all f (suc n) h = rw (← add-one n) (each_more f n (each_all f n (λ k l. h k (omega arith))) (h n (omega arith)))
 
 -- whether all pass, one check after another
 pub ok_none : (f : ℕ → Verdict) → true ≡ is_ok (each_of f 0)
@@ -31,7 +26,7 @@ ok_more f n b c p q = rw (add-one n) ((λ j. p j && q j) ∙ sym (both_ok (each_
 
 pub ok_is : (r : Verdict) → true ≡ is_ok r → r ≡ Ok tt
 ok_is (Ok _) h = refl
-ok_is (Err e) h = absurd (let z : ◌≡◌ {A = ℕ} 0 1 = cc in omega arith)
+ok_is (Err e) h = cc
 
 pub refuse_ok : (b : Bool) (e : Fault) → not b ≡ is_ok (refuse_if b e)
 refuse_ok true e = refl

@@ -37,7 +37,7 @@ module _ (q : ℕ) (s : List ℕ) (i : ℕ) where
         | inl e ↦ let d = series_trade e in inl (e, cc)
         | inr e ↦ elim (cases_Bool (is_forecast (kind_at s i))) [
           | inl f ↦ let d = series_forecast e f in inr (f, cc)
-          | inr f ↦ let d = series_none e f in absurd (let z : ◌≡◌ {A = ℕ} 0 1 = cc in omega arith)
+          | inr f ↦ let d = series_none e f in absurd (cc)
         ]
       ]
 
@@ -63,10 +63,10 @@ module _ (g own q : ℕ) (s : List ℕ) (passed : heads_check g own s ≡ Ok tt)
   pub series_there : series_of q s i ≡ None → ⊥
   series_there h =
       elim (cases_Bool (is_trade (kind_at s i))) [
-        | inl e ↦ let d = series_trade q s i e in let z : ◌≡◌ {A = ℕ} 0 1 = cc in omega arith
+        | inl e ↦ let d = series_trade q s i e in cc
         | inr e ↦ elim (cases_Bool (is_forecast (kind_at s i))) [
-          | inl f ↦ let d = series_forecast q s i e f in let z : ◌≡◌ {A = ℕ} 0 1 = cc in omega arith
-          | inr f ↦ let d = head_lawful g own s passed i there in let z : ◌≡◌ {A = ℕ} 0 1 = (grind (arith, nat_tests)) in omega arith
+          | inl f ↦ let d = series_forecast q s i e f in cc
+          | inr f ↦ let d = head_lawful g own s passed i there in grind (arith, nat_tests)
         ]
       ]
 
