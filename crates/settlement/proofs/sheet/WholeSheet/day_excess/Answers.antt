@@ -1,4 +1,4 @@
-use Rattle.std.proofs.Common.{◌≡◌, ℕ, ◌*◌, ◌^◌, ◌≤◌, length, min, pos, ◌-ℤ◌, ap, ◌∙◌, arith, rules}
+use Rattle.std.proofs.Common.{ℕ, ◌^◌, ◌≤◌, length, min, pos, ◌-ℤ◌, ap, ◌∙◌, arith, rules}
 use Rattle.std.proofs.lemmas.Iterator.{YieldsList-from_range, YieldsList-from_map}
 use Rattle.std.proofs.lemmas.Iterator.Consumers.{sum_from_yields_List}
 use Rattle.std.proofs.lemmas.Iterator.Adapters.{fits_from_length, at_most_from_yields_List}
@@ -39,6 +39,9 @@ returns-clause-value c =
 pub returns-clause-bound : goal.returns-clause-bound
 returns-clause-bound c =
     let low : ℕ → ℕ = λ t. min (over c t) (2 ^ 37) in
-    omega (arith, sum_from_yields_List _ _ c.sum.ensures.ran
-    (YieldsList-from_map _ low (YieldsList-from_range 0 c.args.q c.args.q c.map.ensures.source (omega arith)) c.map.ensures.closure (λ x r q k. search rules)),
-    sum_low low (2 ^ 37) c.args.q (λ t. omega arith))
+    omega (
+      arith,
+      sum_from_yields_List _ _ c.sum.ensures.ran
+          (YieldsList-from_map _ low (YieldsList-from_range 0 c.args.q c.args.q c.map.ensures.source (omega arith)) c.map.ensures.closure (λ x r q k. search rules)),
+      sum_low low (2 ^ 37) c.args.q (λ t. omega arith),
+    )
