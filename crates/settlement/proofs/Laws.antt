@@ -1,5 +1,5 @@
 -- The laws of trades, positions and amounts.
-use Rattle.std.proofs.Common.{◌≡◌, ℕ, zero, suc, ◌+◌, ◌-◌, ◌*◌, ◌/◌, ◌<◌, ◌≤◌, cond, eqb, List, length, get_or, pos, negsuc, ◌-ℤ◌, ◌*ℤ◌, neg_ℤ, nat_abs, refl, ap, ◌∙◌, inl, inr, add-zero, mul-zero, arith}
+use Rattle.std.proofs.Common.{◌≡◌, ℕ, zero, suc, ◌+◌, ◌-◌, ◌<◌, ◌≤◌, cond, eqb, List, length, get_or, pos, ◌-ℤ◌, nat_abs, refl, ap, ◌∙◌, inl, inr, add-zero, arith}
 use Rattle.std.proofs.lemmas.Nat.{mul-le}
 use Rattle.std.proofs.lemmas.Int.{ints}
 use Rattle.std.proofs.lemmas.Bool.{leb-true, eqb-true, lt-ltb, le-ltb, cases_Bool, cases_lt}
@@ -8,7 +8,7 @@ use Rattle.settlement.specs.declared.phase.Phase.TheVariants.{Ahead, Near, After
 use Rattle.settlement.specs.Sums.{sumℤ}
 use Rattle.settlement.specs.Positions.{confirmed, confirmed_with, net_purchases, confirmed_open, excess, day_excess}
 use Rattle.settlement.specs.Amounts.{no_rates, row_for, penalty}
-use Rattle.settlement.specs.Laws.{Balanced, BelowBoth, FartherCostsNoLess, FartherDayNoLess, NeverFalls, PenaltyNoLess, Nearest, Away}
+use Rattle.settlement.specs.Laws.{Balanced, BelowBoth, FartherCostsNoLess, FartherDayNoLess, NeverFalls, PenaltyNoLess}
 use Rattle.settlement.proofs.Sums.{sumℕ-le, sumℤ-same, sumℤ-sub, sumℤ-swap}
 
 -- Trades
@@ -37,7 +37,7 @@ below_both S t a b = (omega arith, omega arith)
 
 -- Positions
 
-pub farther_costs_no_less : FartherCostsNoLess
+farther_costs_no_less : FartherCostsNoLess
 farther_costs_no_less f Ahead o p h = omega (arith, leb-true (nat_abs o) (nat_abs p) h)
 farther_costs_no_less f Near o p h = omega (arith, leb-true (nat_abs o) (nat_abs p) h)
 farther_costs_no_less f After o p h = omega (arith, leb-true (nat_abs o) (nat_abs p) h)
@@ -87,17 +87,3 @@ pub penalty_no_less : PenaltyNoLess
 penalty_no_less tariff s s' E E' h l k =
     let e : s' ≡ s + (s' - s) = omega arith in
     rw e (penalty_under (row_for tariff s) (row_for tariff (s + (s' - s))) E E' (rows_under tariff s (s' - s) h) k)
-
--- Rounding
-
-neg_mul : (k n : ℕ) → pos k *ℤ neg_ℤ (pos n) ≡ neg_ℤ (pos (k * n))
-neg_mul k zero = rw (mul-zero k) refl
-neg_mul k (suc n) = refl
-
-pub nearest : Nearest
-nearest (pos n) = omega (arith, ints)
-nearest (negsuc n) = omega (arith, ints, neg_mul 4000 ((suc n + 2000) / 4000))
-
-pub away : Away
-away (pos n) h = omega (arith, ints)
-away (negsuc n) h = omega (arith, ints, neg_mul 4000 ((suc n + 2000) / 4000))

@@ -1,7 +1,6 @@
 pub mod Places
 pub mod Sums
 pub mod Adding
-pub mod Signs
 pub mod Trading
 pub mod Excesses
 pub mod Agreement

@@ -1,26 +1,20 @@
-use Rattle.std.proofs.Common.{◌≡◌, ◌*ℤ◌, arith, w64, SFits, rules}
-use Rattle.std.proofs.lemmas.Int.{to_z-of_z}
-use Rattle.settlement.proofs.Signs.{nat_abs_mul_le, sfits_mul}
+use Rattle.std.proofs.Common.{◌≡◌, ◌≤◌, ◌*ℤ◌, nat_abs, arith, w64, SFits, rules}
+use Rattle.std.proofs.lemmas.Int.{to_z-of_z, fits_signed_mul, unsigned_abs-mul}
+use Rattle.std.proofs.lemmas.Nat.{mul-le}
 use Rattle.settlement.proofs.amounts.product.Goals as goal
 
 price-is : (c : goal.After-from) → c.from.result ≡ c.args.price
 price-is c = search rules
 
-fits-product : (c : goal.After-from) → SFits w64 (c.args.imbalance *ℤ c.from.result)
-fits-product c = sfits_mul c.args.imbalance c.from.result 68730000000 1000000 c.requires.0 (search rules) (omega arith)
-
-pub overflow_mul-result : goal.overflow_mul-result
-overflow_mul-result c =
-    let f = c.ranges.imbalance in
-    let g : SFits w64 c.from.result = search rules in
-    simp to_z-of_z (fits-product c)
-
 pub returns : goal.returns
 returns c =
+    let i = c.args.imbalance in
+    let price = c.from.result in
+    let low : nat_abs price ≤ 1000000 = search rules in
     let f = c.ranges.imbalance in
-    let g : SFits w64 c.from.result = search rules in
-    let p = fits-product c in
+    let g : SFits w64 price = search rules in
+    let p : SFits w64 (i *ℤ price) = fits_signed_mul w64 i price 68730000000 1000000 c.requires.0 low (omega arith) in
     record {
       value = simp to_z-of_z (rw (price-is c));
-      bound = simp to_z-of_z (nat_abs_mul_le c.args.imbalance c.from.result 68730000000 1000000 c.requires.0 (search rules));
+      bound = simp to_z-of_z (omega (arith, unsigned_abs-mul i price, mul-le (nat_abs i) (nat_abs price) 68730000000 1000000 c.requires.0 low));
     }

@@ -1,13 +1,14 @@
 use Rattle.settlement.proofs.Laws as laws
 use Rattle.settlement.proofs.theorems.laws_stand.Goals as goal
 
-pub returns : goal.returns
-returns c = record {
-  balanced = laws.balanced;
-  below_both = laws.below_both;
-  farther = laws.farther_costs_no_less;
-  farther_day = laws.farther_day_no_less;
-  penalty = laws.penalty_no_less;
-  nearest = laws.nearest;
-  away = laws.away;
-}
+pub returns-clause-balanced : goal.returns-clause-balanced
+returns-clause-balanced c = laws.balanced
+
+pub returns-clause-below_both : goal.returns-clause-below_both
+returns-clause-below_both c = laws.below_both
+
+pub returns-clause-farther_day : goal.returns-clause-farther_day
+returns-clause-farther_day c = laws.farther_day_no_less
+
+pub returns-clause-penalty : goal.returns-clause-penalty
+returns-clause-penalty c = laws.penalty_no_less

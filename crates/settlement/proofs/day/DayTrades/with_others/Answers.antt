@@ -1,5 +1,5 @@
-use Rattle.std.proofs.Common.{◌≡◌, ℕ, ◌+◌, ◌*◌, ◌^◌, ◌<◌, ◌≤◌, length, get_or, pos, ◌-ℤ◌, refl, sym, ap, ◌∙◌, arith, rules}
-use Rattle.settlement.specs.Days.{day_net, HasRoom, Grows, Adds, with_others}
+use Rattle.std.proofs.Common.{ℕ, length, get_or, pos, ◌-ℤ◌, refl, sym, ap, ◌∙◌, arith, rules}
+use Rattle.settlement.specs.Days.{day_net}
 use Rattle.settlement.proofs.Adding.{blank, net_none, net_more}
 use Rattle.settlement.proofs.Trading.{others_none, others_more, others_skip}
 use Rattle.settlement.proofs.day.DayTrades.with_others.Goals as goal

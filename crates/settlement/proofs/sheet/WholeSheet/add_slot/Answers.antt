@@ -9,11 +9,11 @@ returns-then-self-place-clause-value c =
     let sheet = c.args.self.now in
     let place = c.slot_place-place in
     λ t l. c.add_words.ensures.value (statements sheet c.args.group (slot_of c.args.slot))
-        (λ u w h p.
-        let read : w ≡ get_or sheet.words.now (place.result * 96 + u) 0 = search rules in
-        read ∙ sent_at _ _ _ _ _ u _ place.ensures.value c.if-self-place.true)
-        t
-        (omega arith)
+    (λ u w h p.
+    let read : w ≡ get_or sheet.words.now (place.result * 96 + u) 0 = search rules in
+    read ∙ sent_at _ _ _ _ _ u _ place.ensures.value c.if-self-place.true)
+    t
+    (omega arith)
 
 pub returns-else-self-place-clause-value : goal.returns-else-self-place-clause-value
 returns-else-self-place-clause-value c =

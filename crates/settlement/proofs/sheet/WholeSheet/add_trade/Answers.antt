@@ -12,11 +12,11 @@ returns-then-self-into-clause-value c =
     let out = c.slot_place-out in
     let into = c.slot_place-into in
     λ t l. c.add_words.ensures.value (λ u. confirmed (statements sheet) u c.args.a c.args.b)
-        (λ u w h p.
-        let read : w ≡ min (get_or ws (out.result * 96 + u) 0) (get_or ws (into.result * 96 + u) 0) = search rules in
-        read ∙ confirmed_at _ _ _ u _ _ _ _ out.ensures.value into.ensures.value c.if-self-out.true c.if-self-into.true)
-        t
-        (omega arith)
+    (λ u w h p.
+    let read : w ≡ min (get_or ws (out.result * 96 + u) 0) (get_or ws (into.result * 96 + u) 0) = search rules in
+    read ∙ confirmed_at _ _ _ u _ _ _ _ out.ensures.value into.ensures.value c.if-self-out.true c.if-self-into.true)
+    t
+    (omega arith)
 
 pub returns-else-self-out-clause-value : goal.returns-else-self-out-clause-value
 returns-else-self-out-clause-value c =

@@ -1,26 +1,47 @@
-use Rattle.std.proofs.Common.{◌+◌, pos, ◌-ℤ◌, sym, ap, ◌∙◌, arith, w64, rules}
+use Rattle.std.proofs.Common.{ℕ, ◌^◌, ◌≤◌, length, min, pos, ◌-ℤ◌, ap, ◌∙◌, arith, rules}
+use Rattle.std.proofs.lemmas.Iterator.{YieldsList-from_range, YieldsList-from_map}
+use Rattle.std.proofs.lemmas.Iterator.Consumers.{sum_from_yields_List}
+use Rattle.std.proofs.lemmas.Iterator.Adapters.{fits_from_length, at_most_from_yields_List}
+use Rattle.std.proofs.lemmas.List.FromFn.{length-range_with_len}
+use Rattle.std.specs.List.{range_with_len}
 use Rattle.forms.specs.Figures.{figures_of}
 use Rattle.forms.specs.Slots.{cons}
-use Rattle.std.proofs.lemmas.Int.{to_z-of_z}
 use Rattle.settlement.specs.declared.phase.Phase.TheVariants.{After}
+use Rattle.settlement.specs.Days.{day_net}
 use Rattle.settlement.specs.Positions.{open_position, confirmed_open, excess}
 use Rattle.settlement.specs.Statements.{statements}
-use Rattle.settlement.proofs.Excesses.{day_excess_none, day_excess_more}
+use Rattle.settlement.proofs.Excesses.{day_excess_sum, sum_low}
 use Rattle.settlement.proofs.sheet.WholeSheet.day_excess.Goals as goal
 
-pub loop-t-init : goal.loop-t-init
-loop-t-init c = search (rules, day_excess_none)
+pub sum-requires-clause-fits : goal.sum-requires-clause-fits
+sum-requires-clause-fits c =
+    let few : length (range_with_len 0 c.args.q) ≤ 96 = omega (arith, length-range_with_len 0 c.args.q) in
+    fits_from_length _ _ 96 _ (at_most_from_yields_List (YieldsList-from_range 0 c.args.q c.args.q c.map.ensures.source (omega arith)) few) c.map.ensures.closure (omega arith) (λ x r q k. search rules)
 
-pub loop-t-preserved : goal.loop-t-preserved
-unfolding confirmed_open
-loop-t-preserved c =
-    let sheet = c.args.self.now in
-    let t = c.loop-t.t in
+-- what the code adds for a quarter hour
+abbrev over : goal.After-sum → ℕ → ℕ
+over c t =
     let f = figures_of c.args.figures.now in
-    let S = statements sheet in
-    let net = c.confirmed_trades-trades.ensures t (omega (arith, c.requires.1)) in
-    let check = to_z-of_z w64 c.check_value.result (search rules) ∙ c.check_value.ensures.value ∙ ap (λ n. n -ℤ pos (S c.args.a cons t)) net in
-    let open-now = to_z-of_z w64 c.open_position-confirmed.result (search rules) ∙ c.open_position-confirmed.ensures.value ∙ ap (open_position f) check in (
-      (λ j. c.loop-t.invariant.0 j + (c.excess-sum.ensures.value ∙ ap (excess f After) open-now) j) ∙ sym (day_excess_more S f sheet.groups c.args.a t),
-      search rules,
+    let trades = c.confirmed_trades-trades.result in
+    excess f After (open_position f (day_net trades.taken trades.given t -ℤ pos (statements c.args.self.now c.args.a cons t)))
+
+pub returns-clause-value : goal.returns-clause-value
+unfolding confirmed_open
+returns-clause-value c =
+    let S = statements c.args.self.now in
+    let f = figures_of c.args.figures.now in
+    let a = c.args.a in
+    sum_from_yields_List _ _ c.sum.ensures.ran
+    (YieldsList-from_map _ (over c) (YieldsList-from_range 0 c.args.q c.args.q c.map.ensures.source (omega arith)) c.map.ensures.closure (λ x r q k. search rules))
+    ∙ day_excess_sum S f c.args.self.now.groups a (over c) c.args.q
+    (λ t l. ap (λ n. excess f After (open_position f (n -ℤ pos (S a cons t)))) (c.confirmed_trades-trades.ensures t (omega arith)))
+
+pub returns-clause-bound : goal.returns-clause-bound
+returns-clause-bound c =
+    let low : ℕ → ℕ = λ t. min (over c t) (2 ^ 37) in
+    omega (
+      arith,
+      sum_from_yields_List _ _ c.sum.ensures.ran
+          (YieldsList-from_map _ low (YieldsList-from_range 0 c.args.q c.args.q c.map.ensures.source (omega arith)) c.map.ensures.closure (λ x r q k. search rules)),
+      sum_low low (2 ^ 37) c.args.q (λ t. omega arith),
     )
