@@ -1,5 +1,5 @@
 -- What chains over `1..=n` give, as entries, and what they add to the lines.
-use Rattle.std.proofs.Common.{◌≡◌, ℕ, zero, suc, ◌+◌, ◌-◌, Bool, true, false, not, ◌==◌, cond, List, [], ◌∷◌, ◌++◌, map, filter, Option, Result, MatchResult, OnOk, refl, ap, sym, subst, ◌∙◌, arith}
+use Rattle.std.proofs.Common.{◌≡◌, ℕ, zero, suc, ◌+◌, ◌-◌, Bool, true, false, not, ◌==◌, cond, List, [], ◌∷◌, ◌++◌, map, filter, Option, Result, MatchResult, OnOk, Vec, vec_items, refl, ap, sym, subst, ◌∙◌, arith}
 use denote.Param.Members.{Mut}
 use denote.Ref.{Bor}
 use Rattle.std.specs.Fn.{Called, CalledAt}
@@ -7,6 +7,7 @@ use Rattle.std.specs.Iterator.{AlwaysYields, Yields, Drains}
 use Rattle.std.specs.Iterator.Adapters.{map_source, map_callee, filter_source, filter_callee, filter_steps}
 use Rattle.std.specs.List.{range_with_len, flat_map}
 use Rattle.std.specs.Range.{range_inclusive_len, range_inclusive_start, range_inclusive_end, range_inclusive_exhausted}
+use Rattle.std.specs.declared.alloc.Global.{Global}
 use Rattle.std.specs.declared.iter.Filter.{Filter}
 use Rattle.std.specs.declared.iter.Map.{Map}
 use Rattle.std.specs.declared.ops.RangeInclusive.{RangeInclusive}
@@ -17,16 +18,16 @@ use Rattle.std.proofs.lemmas.Iterator.Consumers.{YieldsList-at, YieldsList-from_
 use Rattle.std.proofs.lemmas.List.{map-append}
 use Rattle.std.proofs.lemmas.List.Concat.{flat_map_single}
 use Rattle.inquire.specs.declared.line.Line.{Line}
-use Rattle.inquire.specs.Entries.{Entry, entry_of}
+use Rattle.inquire.specs.Entries.{Entry, entry_of, entries_in}
 use Rattle.inquire.specs.Table.{each_to}
 
 -- what `extend` adds at Ok
-pub extended : {T E : Type 0} {steps : T → Option Line → T → Type 0} {es : List Entry} {P : List Line → Type 0} {s : T} (old new : List Line) (r : Result (Unit {0}) E)
+pub extended : {T E : Type 0} {steps : T → Option Line → T → Type 0} {es : List Entry} {P : List Line → Type 0} {s : T} (old new : Vec Line Global) (r : Result (Unit {0}) E)
     → ((it : T) × (xs : List Line) × (it ≡ s) × P xs × MatchResult r (λ _. Drains steps it xs) (λ _. (t : T) × Yields steps it xs t))
-    → ((xs : List Line) → P xs → new ≡ old ++ xs) → YieldsList steps entry_of s es → OnOk r (map entry_of new ≡ map entry_of old ++ es)
+    → ((xs : List Line) → P xs → vec_items new ≡ vec_items old ++ xs) → YieldsList steps entry_of s es → OnOk r (entries_in new ≡ entries_in old ++ es)
 extended old new r ran adds road =
     fact_from_extend entry_of r ran (λ it b. YieldsList-at b road)
-    (λ xs e h. ap (map entry_of) (adds xs h) ∙ map-append entry_of old xs ∙ ap (λ (zs : List Entry). map entry_of old ++ zs) e)
+    (λ xs e h. ap (map entry_of) (adds xs h) ∙ map-append entry_of (vec_items old) xs ∙ ap (λ (zs : List Entry). entries_in old ++ zs) e)
 
 abbrev left : RangeInclusive ℕ → ℕ
 left s = range_inclusive_len (λ x y. y - x) (range_inclusive_start s) (range_inclusive_end s) (range_inclusive_exhausted s)

@@ -1,6 +1,7 @@
 //! A session between an input and an output.
-ghost use Rattle.std.specs.Prelude.{◌≡◌, ◌+◌, ◌≤◌, length, IfOk, IfSome, nat_le};
+ghost use Rattle.std.specs.Prelude.{◌≡◌, ◌≤◌, length, IfOk, IfSome, nat_le};
 ghost use Rattle.serve.specs.Capacity.{capacity};
+ghost use Rattle.session.specs.Frames.{frame_head};
 
 use crate::input_buffer::InputBuffer;
 use session::frame::{FRAME_HEAD, body_length};
@@ -69,7 +70,7 @@ impl<R: Read + Drop, W: Write + Drop> Service<R, W> {
     /// Waits for the body of a frame, which follows its head, and answers the length of both, or nothing
     /// where the head announces too much or the body is cut short.
     fn read_body(&mut self, head: [u8; FRAME_HEAD]) -> io::Result<Option<usize>>
-        ensures { IfOk result (λ o. IfSome o (λ n. (5 ≤ n) × (n ≤ length self.new.input))) }
+        ensures { IfOk result (λ o. IfSome o (λ n. (frame_head ≤ n) × (n ≤ length self.new.input))) }
     {
         let Some(size) = body_length(head) else {
             return Ok(None);

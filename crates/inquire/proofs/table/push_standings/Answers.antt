@@ -12,7 +12,7 @@ use Rattle.inquire.proofs.table.push_standings.Goals as goal
 pub returns : goal.returns
 returns c =
     let s : SessionState = view_of c.args.session.now in
-    extended _ _ c.extend.result c.extend.ensures.ran (λ xs p. p.0)
+    extended c.args.lines.now c.extend.new.self c.extend.result c.extend.ensures.ran (λ xs p. p.0)
     (YieldsList-from_flat_map _ _ _ entry_of (day_standings s) _
     (λ x u q k. (
       search rules,

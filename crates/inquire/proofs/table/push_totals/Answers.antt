@@ -8,6 +8,6 @@ use Rattle.inquire.proofs.table.push_totals.Goals as goal
 pub returns : goal.returns
 returns c =
     let s : SessionState = view_of c.args.session.now in
-    extended _ _ c.extend.result c.extend.ensures.ran (λ xs p. p.0)
+    extended c.args.lines.now c.extend.new.self c.extend.result c.extend.ensures.ran (λ xs p. p.0)
     (line_each _ (λ a. total a (asks_total s.place a)) _ (λ x r q k. search rules)
     (groups_in s.place) (search rules) c.map.ensures.closure)
