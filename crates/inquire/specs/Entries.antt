@@ -1,5 +1,5 @@
 -- The lines of the table: a question with its answer, and its text.
-use Rattle.std.specs.Prelude.{ℕ, Bool, cond, List, ◌++◌, map, ℤ, Ok, Err, vec_items, codes, decimal, Result, Vec}
+use Rattle.std.specs.Prelude.{ℕ, Bool, cond, List, ◌++◌, map, ℤ, Ok, Err, vec_items, codes, decimal, Option, Some, Result, Vec}
 use Rattle.std.specs.declared.alloc.Global.{Global}
 use Rattle.std.specs.Fmt.{signed_decimal}
 use Rattle.forms.specs.declared.fault.Fault.{Fault}
@@ -31,13 +31,18 @@ abbrev told : {A : Type 0} → (A → List ℕ) → Result A Fault → List ℕ
 told numbers (Ok x) = numbers x
 told numbers (Err e) = codes "REFUSED " ++ shown_of (notice_of e)
 
-abbrev positions_told : ℤ × ℤ × ℤ → List ℕ
+-- the same where the numbers' text need not be stated
+abbrev pub answer_told : {A : Type 0} → (A → Option (List ℕ)) → Result A Fault → Option (List ℕ)
+answer_told output (Ok x) = output x
+answer_told output (Err e) = Some (codes "REFUSED " ++ shown_of (notice_of e))
+
+abbrev pub positions_told : ℤ × ℤ × ℤ → List ℕ
 positions_told p = signed_decimal p.0 ++ (codes " " ++ (signed_decimal p.1 ++ (codes " " ++ signed_decimal p.2)))
 
-abbrev standing_told : Bool × ℕ → List ℕ
+abbrev pub standing_told : Bool × ℕ → List ℕ
 standing_told p = decimal (cond p.0 1 0) ++ (codes " " ++ decimal p.1)
 
-abbrev total_told : ℕ × ℤ → List ℕ
+abbrev pub total_told : ℕ × ℤ → List ℕ
 total_told p = decimal p.0 ++ (codes " " ++ signed_decimal p.1)
 
 -- the fields with one blank between, a mark as 1 or 0

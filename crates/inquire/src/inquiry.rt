@@ -53,8 +53,7 @@ pub fn inquiry(rt: &HostRuntime) -> io::Result<()> {
 fn print_table(rt: &HostRuntime, session: &Session, quarters: &[u16]) -> io::Result<()> {
     let lines = table(rt.alloc(), session, quarters)?;
     let mut output = BufWriter::new(rt.alloc(), rt.stdout())?;
-    for line in lines.iter() {
-        let line = *line;
+    for line in &lines {
         writeln!(output, "{line}")?;
     }
     output.flush()

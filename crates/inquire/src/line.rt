@@ -2,6 +2,7 @@
 ghost use Rattle.std.specs.Prelude.{Some};
 ghost use Rattle.inquire.specs.Entries.{entry_of, text};
 
+use crate::answer::{Answer, Marked, Positions, Totalled};
 use book::answers::{Standing, Total};
 use forms::fault::Fault;
 use std::fmt;
@@ -42,34 +43,27 @@ impl fmt::Display for Line {
                 quarter,
                 group,
                 answer,
-            } => match answer {
-                Ok((stated, confirmed, net)) => {
-                    write!(f, "POSITION {quarter} {group} {stated} {confirmed} {net}")
-                }
-                Err(fault) => write!(f, "POSITION {quarter} {group} REFUSED {fault}"),
-            },
+            } => {
+                let answer = Answer(answer.map(Positions));
+                write!(f, "POSITION {quarter} {group} {answer}")
+            }
             Line::Trade {
                 quarter,
                 from,
                 to,
                 answer,
-            } => match answer {
-                Ok(power) => write!(f, "TRADE {quarter} {from} {to} {power}"),
-                Err(fault) => write!(f, "TRADE {quarter} {from} {to} REFUSED {fault}"),
-            },
-            Line::Standing { day, group, answer } => match answer {
-                Ok(Standing { mark, stage }) => {
-                    let mark = u8::from(mark);
-                    write!(f, "STANDING {day} {group} {mark} {stage}")
-                }
-                Err(fault) => write!(f, "STANDING {day} {group} REFUSED {fault}"),
-            },
-            Line::Total { group, answer } => match answer {
-                Ok(Total { penalties, balance }) => {
-                    write!(f, "TOTAL {group} {penalties} {balance}")
-                }
-                Err(fault) => write!(f, "TOTAL {group} REFUSED {fault}"),
-            },
+            } => {
+                let answer = Answer(answer);
+                write!(f, "TRADE {quarter} {from} {to} {answer}")
+            }
+            Line::Standing { day, group, answer } => {
+                let answer = Answer(answer.map(Marked));
+                write!(f, "STANDING {day} {group} {answer}")
+            }
+            Line::Total { group, answer } => {
+                let answer = Answer(answer.map(Totalled));
+                write!(f, "TOTAL {group} {answer}")
+            }
         }
     }
 }

@@ -1,4 +1,5 @@
 pub mod Frames
+pub mod Letters
 pub mod Replies
 pub mod Steps
 pub mod Stops

@@ -22,6 +22,11 @@ told_by Done = done
 told_by (Taken answer) = taken answer.beyond answer.first
 told_by Closed = closed
 
+-- a reply or the fault in its place
+abbrev pub told_in : Result Reply Fault → Told
+told_in (Ok reply) = told_by reply
+told_in (Err e) = refused e
+
 -- the line; a close has none of its own
 abbrev pub line : Told → List ℕ
 line stop = codes "STOP"

@@ -1,6 +1,7 @@
 -- What a frame does to a session.
 use Rattle.std.specs.Prelude.{ℕ, min, cond, ◌&&◌, List, length, replicate, is_some, Some, None, Ok, Err, Option, Result, ◌==◌, nat_le, nat_lt}
 use Rattle.forms.specs.declared.fault.Fault.{Fault}
+use Rattle.forms.specs.Bounds.{most_groups}
 use Rattle.forms.specs.Bytes.{byte}
 use Rattle.forms.specs.Checks.{Verdict}
 use Rattle.stage.specs.Asked.{rule_asked}
@@ -18,9 +19,9 @@ rule_made s (Ok m) = (done, record { rule = Some m; place = s.place; sheet = s.s
 rule_made s (Err e) = (refused e, s)
 
 -- O: a book under the rule, on a sheet and rows for the groups that the form names, as far as they are served: at most so
--- many, and never more than the 16 that a book can have
+-- many, and never more than a book can have
 abbrev pub groups_served_for : ℕ → List ℕ → ℕ
-groups_served_for most body = cond (nat_lt 0 (length body) && nat_le (byte body 0) (min most 16)) (byte body 0) 0
+groups_served_for most body = cond (nat_lt 0 (length body) && nat_le (byte body 0) (min most most_groups)) (byte body 0) 0
 
 abbrev pub if_opened_for : ℕ → SessionState → List ℕ → Verdict × Place Meaning × List ℕ → Told × SessionState
 if_opened_for most s body (Ok _, place, sheet) =
@@ -58,7 +59,7 @@ day_ended s body =
     let o = closes (λ m. m) s.place (record { sheet = s.sheet; rows = s.rows }) body in
     (close_told o.0, record { rule = s.rule; place = o.1; sheet = o.2.sheet; rows = o.2.rows })
 
-abbrev by_rule : ℕ → Option Meaning → SessionState → List ℕ → Told × SessionState
+abbrev pub by_rule : ℕ → Option Meaning → SessionState → List ℕ → Told × SessionState
 by_rule most (Some m) s body = book_opened_for most m s body
 by_rule most None s body = (stop, s)
 

@@ -1,10 +1,11 @@
 -- When a frame ends the session, before anything else is tested.
 use Rattle.std.specs.Prelude.{ℕ, ◌+◌, Bool, true, cond, not, ◌&&◌, ◌||◌, List, length, ◌==◌, nat_le, nat_lt}
+use Rattle.forms.specs.Bounds.{most_groups}
 use Rattle.forms.specs.Bytes.{byte}
 
--- an opening form for more groups than the program serves, which are at most so many; a book can have 16
+-- an opening form for more groups than the program serves, which are at most so many, and no more than a book can have
 abbrev pub too_many_for : ℕ → List ℕ → Bool
-too_many_for most body = nat_lt 0 (length body) && (nat_le (most + 1) (byte body 0) && nat_le (byte body 0) 16)
+too_many_for most body = nat_lt 0 (length body) && (nat_le (most + 1) (byte body 0) && nat_le (byte body 0) most_groups)
 
 -- the same where it serves eight
 abbrev pub too_many_groups : List ℕ → Bool

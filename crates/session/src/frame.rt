@@ -14,8 +14,5 @@ pub fn body_length(head: [u8; FRAME_HEAD]) -> Option<usize>
     ensures whole { length head ≡ frame_head }
 {
     let announced = u32::from_be_bytes([head[1], head[2], head[3], head[4]]);
-    if announced > LONGEST_BODY {
-        return None;
-    }
-    Some(announced as usize)
+    (announced <= LONGEST_BODY).then_some(announced as usize)
 }

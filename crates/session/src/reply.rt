@@ -27,17 +27,13 @@ impl fmt::Display for Reply {
     fn fmt<W: fmt::Write>(&self, f: &mut fmt::Formatter<W>) -> fmt::Result {
         match self {
             Reply::Stop => f.write_str("STOP"),
-            Reply::Refused(fault) => {
-                let fault = *fault;
-                write!(f, "REFUSED {fault}")
-            }
+            Reply::Refused(fault) => write!(f, "REFUSED {fault}"),
             Reply::Done => f.write_str("OK"),
-            Reply::Taken(answer) => {
-                let count = answer.beyond;
-                let first = answer.first.unwrap_or(0);
-                write!(f, "OK {count} {first}")
+            Reply::Taken(Submitted { beyond, first }) => {
+                let first = first.unwrap_or(0);
+                write!(f, "OK {beyond} {first}")
             }
-            Reply::Closed => f.write_str(""),
+            Reply::Closed => Ok(()),
         }
     }
 }

@@ -1,20 +1,24 @@
 //! One frame after another.
 ghost use Rattle.std.specs.Prelude.{◌≡◌, ◌≤◌, [], map, replicate, is_some, IfOk, None, MatchResult};
-ghost use Rattle.stage.specs.Asked.{meaning_of, rule_asked};
+ghost use Rattle.forms.specs.Bounds.{most_groups};
+ghost use Rattle.stage.specs.Asked.{rule_asked};
 ghost use Rattle.settlement.specs.Sheets.{sheet_size};
 ghost use Rattle.book.specs.Rows.{row_of, no_row};
-ghost use Rattle.session.specs.Replies.{told_by, plainly};
-ghost use Rattle.session.specs.Steps.{groups_served_for, rule_made, book_opened_for, message_sent, phase_moved, day_ended, stepped_for, stepped};
+ghost use Rattle.session.specs.Letters.{code_of};
+ghost use Rattle.session.specs.Replies.{told_by, told_in};
+ghost use Rattle.session.specs.Steps.{groups_served_for, rule_made, by_rule, message_sent, phase_moved, day_ended, stepped_for, stepped};
 ghost use Rattle.session.specs.Stops.{stops_for, too_many_for, too_many_groups};
 ghost use Rattle.session.specs.Views.{view_of};
 
+use crate::letter::Letter;
 use crate::reply::Reply;
 use crate::session::{MOST_GROUPS, Session};
 use book::book::Book;
 use book::result_row::ResultRow;
+use forms::bounds;
 use forms::fault::Fault;
 use settlement::sheet::sheet_size;
-use stage::any_rule::{AnyRule, rule};
+use stage::any_rule::rule;
 use std::alloc::{AllocError, Global};
 
 /// Whether an opening form is for more groups than the program `account` serves.
@@ -28,35 +32,23 @@ pub fn too_many_groups(body: &[u8]) -> bool
 fn too_many_for(most: u8, body: &[u8]) -> bool
     ensures { result ≡ too_many_for most body.now }
 {
-    match body {
-        [groups, ..] => *groups > most && *groups <= 16,
-        _ => false,
-    }
-}
-
-fn told(answer: Result<(), Fault>) -> Reply
-    ensures { told_by result ≡ plainly answer }
-{
-    match answer {
-        Ok(()) => Reply::Done,
-        Err(fault) => Reply::Refused(fault),
-    }
+    body.first().is_some_and(|groups| *groups > most && usize::from(*groups) <= bounds::MOST_GROUPS)
 }
 
 /// The groups of an opening form, 0 where a program for at most `most` groups serves none such.
 fn groups_served(most: u8, body: &[u8]) -> usize
     ensures value { result ≡ groups_served_for most body.now }
-    ensures few { result ≤ 16 }
+    ensures few { result ≤ most_groups }
 {
-    match body {
-        [groups, ..] if *groups <= most.min(16) => *groups as usize,
-        _ => 0,
-    }
+    body.first()
+        .map(|groups| usize::from(*groups))
+        .filter(|groups| *groups <= usize::from(most).min(bounds::MOST_GROUPS))
+        .unwrap_or(0)
 }
 
 /// A sheet for so many groups, with zero everywhere.
 fn blank_sheet(heap: Global, groups: usize) -> Result<Vec<u32>, AllocError>
-    requires { groups ≤ 16 }
+    requires { groups ≤ most_groups }
     ensures { IfOk result (λ v. v.items ≡ replicate (sheet_size groups) 0) }
 {
     vec![in heap; 0u32; sheet_size(groups)]
@@ -90,76 +82,69 @@ impl Session {
     }
 
     /// Whether the frame ends the session.
-    fn stops(&self, most: u8, letter: u8, body: &[u8]) -> bool
-        ensures { result ≡ stops_for most (is_some (view_of self.now).rule) (is_some (view_of self.now).place) letter body.now }
+    fn stops(&self, most: u8, letter: Letter, body: &[u8]) -> bool
+        ensures { result ≡ stops_for most (is_some (view_of self.now).rule) (is_some (view_of self.now).place) (code_of letter) body.now }
     {
         let ruled = self.rule.is_some();
         let opened = self.book.is_open();
         match letter {
-            b'R' => ruled,
-            b'O' => !ruled || opened || too_many_for(most, body),
-            b'S' | b'C' => !opened,
-            b'A' => !opened || body.len() > 0,
-            _ => true,
+            Letter::Rule => ruled,
+            Letter::Opening => !ruled || opened || too_many_for(most, body),
+            Letter::Message | Letter::Closing => !opened,
+            Letter::Advance => !opened || !body.is_empty(),
         }
     }
 
-    fn make_rule(&mut self, body: &[u8]) -> Reply
-        ensures { (told_by result, view_of self.new) ≡ rule_made (view_of self.old) (rule_asked body.now) }
+    fn make_rule(&mut self, body: &[u8]) -> Result<Reply, Fault>
+        ensures { (told_in result, view_of self.new) ≡ rule_made (view_of self.old) (rule_asked body.now) }
     {
-        match rule(body) {
-            Ok(made) => {
-                self.rule = Some(made);
-                Reply::Done
-            }
-            Err(fault) => Reply::Refused(fault),
-        }
+        self.rule = Some(rule(body)?);
+        Ok(Reply::Done)
     }
 
+    /// Opens a book under the session's rule. The session keeps the sheet and the rows only if the book
+    /// opens; a refusal stands inside, since only want of memory ends the program.
     fn open(
         &mut self,
         heap: Global,
         most: u8,
-        chosen: AnyRule,
         body: &[u8],
-    ) -> Result<Reply, AllocError>
-        ensures { MatchResult result (λ reply. (told_by reply, view_of self.new) ≡ book_opened_for most (meaning_of chosen) (view_of self.old) body.now) (λ _. view_of self.new ≡ view_of self.old) }
+    ) -> Result<Result<Reply, Fault>, AllocError>
+        ensures { MatchResult result (λ answer. (told_in answer, view_of self.new) ≡ by_rule most (view_of self.old).rule (view_of self.old) body.now) (λ _. view_of self.new ≡ view_of self.old) }
     {
+        let Some(chosen) = self.rule else {
+            return Ok(Ok(Reply::Stop));
+        };
         let groups = groups_served(most, body);
         let mut sheet = blank_sheet(heap, groups)?;
         let rows = blank_rows(heap, groups)?;
-        match self.book.open(chosen, body, &mut sheet) {
-            Ok(()) => {
-                self.sheet = sheet;
-                self.rows = rows;
-                Ok(Reply::Done)
-            }
-            Err(fault) => Ok(Reply::Refused(fault)),
+        let opened = self.book.open(chosen, body, &mut sheet);
+        if opened.is_ok() {
+            self.sheet = sheet;
+            self.rows = rows;
         }
+        Ok(opened.map(|()| Reply::Done))
     }
 
-    fn submit(&mut self, body: &[u8]) -> Reply
-        ensures { (told_by result, view_of self.new) ≡ message_sent (view_of self.old) body.now }
+    fn submit(&mut self, body: &[u8]) -> Result<Reply, Fault>
+        ensures { (told_in result, view_of self.new) ≡ message_sent (view_of self.old) body.now }
     {
-        match self.book.submit(body, &mut self.sheet) {
-            Ok(answer) => Reply::Taken(answer),
-            Err(fault) => Reply::Refused(fault),
-        }
+        let answer = self.book.submit(body, &mut self.sheet)?;
+        Ok(Reply::Taken(answer))
     }
 
-    fn advance(&mut self) -> Reply
-        ensures { (told_by result, view_of self.new) ≡ phase_moved (view_of self.old) }
+    fn advance(&mut self) -> Result<Reply, Fault>
+        ensures { (told_in result, view_of self.new) ≡ phase_moved (view_of self.old) }
     {
-        told(self.book.advance(&self.sheet))
+        self.book.advance(&self.sheet)?;
+        Ok(Reply::Done)
     }
 
-    fn close(&mut self, body: &[u8]) -> Reply
-        ensures { (told_by result, view_of self.new) ≡ day_ended (view_of self.old) body.now }
+    fn close(&mut self, body: &[u8]) -> Result<Reply, Fault>
+        ensures { (told_in result, view_of self.new) ≡ day_ended (view_of self.old) body.now }
     {
-        match self.book.close(body, &mut self.sheet, &mut self.rows) {
-            Ok(()) => Reply::Closed,
-            Err(fault) => Reply::Refused(fault),
-        }
+        self.book.close(body, &mut self.sheet, &mut self.rows)?;
+        Ok(Reply::Closed)
     }
 
     /// Takes one frame and answers it, for the eight groups that the program `account` serves. Want of
@@ -180,15 +165,19 @@ impl Session {
     ) -> Result<Reply, AllocError>
         ensures { MatchResult result (λ reply. (told_by reply, view_of self.new) ≡ stepped_for most (view_of self.old) letter body.now) (λ _. view_of self.new ≡ view_of self.old) }
     {
+        let Ok(letter) = Letter::try_from(letter) else {
+            return Ok(Reply::Stop);
+        };
         if self.stops(most, letter, body) {
             return Ok(Reply::Stop);
         }
-        match (letter, self.rule) {
-            (b'R', _) => Ok(self.make_rule(body)),
-            (b'O', Some(chosen)) => self.open(heap, most, chosen, body),
-            (b'S', _) => Ok(self.submit(body)),
-            (b'A', _) => Ok(self.advance()),
-            _ => Ok(self.close(body)),
-        }
+        let answer = match letter {
+            Letter::Rule => self.make_rule(body),
+            Letter::Opening => self.open(heap, most, body)?,
+            Letter::Message => self.submit(body),
+            Letter::Advance => self.advance(),
+            Letter::Closing => self.close(body),
+        };
+        Ok(answer.unwrap_or_else(Reply::Refused))
     }
 }

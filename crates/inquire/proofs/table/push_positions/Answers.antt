@@ -1,21 +1,13 @@
-use Rattle.std.proofs.Common.{[], ◌∷◌, ap, arith}
-use Rattle.session.specs.Views.{view_of}
+use Rattle.std.proofs.Common.{rules}
+use Rattle.book.specs.Calls.{asks_position, groups_in}
+use Rattle.session.specs.Views.{SessionState, view_of}
 use Rattle.inquire.specs.Entries.{position}
-use Rattle.inquire.specs.Table.{position_at}
-use Rattle.inquire.proofs.Each.{line_more, no_more}
+use Rattle.inquire.proofs.Each.{extended, line_each}
 use Rattle.inquire.proofs.table.push_positions.Goals as goal
 
-pub loop-group-preserved : goal.loop-group-preserved
-loop-group-preserved c = (
-  line_more (position_at (view_of c.args.session.now) c.args.quarter) _ _ _ _ c.loop-group.group _ (omega arith) (omega arith)
-      c.loop-group.invariant.0 c.in_ok-push.ensures.items (ap (λ r. position c.args.quarter c.loop-group.group r ∷ []) c.position-answer.ensures),
-  omega arith,
-)
-
 pub returns : goal.returns
-returns c = no_more (position_at (view_of c.args.session.now) c.args.quarter) _ _ c.loop-group.group _ (omega arith) c.loop-group.invariant.0
-
-pub returns-in_ok-push : goal.returns-in_ok-push
-returns-in_ok-push c =
-    line_more (position_at (view_of c.args.session.now) c.args.quarter) _ _ _ _ c.loop-group.group _ (omega arith) (omega arith)
-    c.loop-group.invariant.0 c.in_ok-push.ensures.items (ap (λ r. position c.args.quarter c.loop-group.group r ∷ []) c.position-answer.ensures)
+returns c =
+    let s : SessionState = view_of c.args.session.now in
+    extended c.args.lines.now c.extend.new.self c.extend.result c.extend.ensures.ran (λ xs p. p.0)
+    (line_each _ (λ a. position c.args.quarter a (asks_position s.place s.sheet a c.args.quarter)) _ (λ x r q k. search rules)
+    (groups_in s.place) (search rules) c.map.ensures.closure)

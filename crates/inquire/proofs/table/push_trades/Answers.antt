@@ -1,20 +1,22 @@
-use Rattle.std.proofs.Common.{arith}
-use Rattle.session.specs.Views.{view_of}
+use Rattle.std.proofs.Common.{rules, refl}
+use Rattle.std.proofs.lemmas.Iterator.Adapters.{YieldsList-from_flat_map}
+use Rattle.std.proofs.lemmas.Iterator.Consumers.{YieldsList-at}
+use Rattle.std.specs.Iterator.Adapters.{map_callee, map_source, filter_callee}
+use Rattle.book.specs.Calls.{asks_trade, groups_in}
+use Rattle.session.specs.Views.{SessionState, view_of}
+use Rattle.inquire.specs.Entries.{entry_of, trade}
 use Rattle.inquire.specs.Table.{sales}
-use Rattle.inquire.proofs.Each.{part_more, no_more}
+use Rattle.inquire.proofs.Each.{extended, from_1_to, line_each_but}
 use Rattle.inquire.proofs.table.push_trades.Goals as goal
 
-pub loop-from-preserved : goal.loop-from-preserved
-loop-from-preserved c = (
-  part_more (sales (view_of c.args.session.now) c.args.quarter) _ _ _ c.loop-from.from _ (omega arith) (omega arith)
-      c.loop-from.invariant.0 c.in_ok-push_sales.ensures,
-  omega arith,
-)
-
 pub returns : goal.returns
-returns c = no_more (sales (view_of c.args.session.now) c.args.quarter) _ _ c.loop-from.from _ (omega arith) c.loop-from.invariant.0
-
-pub returns-in_ok-push_sales : goal.returns-in_ok-push_sales
-returns-in_ok-push_sales c =
-    part_more (sales (view_of c.args.session.now) c.args.quarter) _ _ _ c.loop-from.from _ (omega arith) (omega arith)
-    c.loop-from.invariant.0 c.in_ok-push_sales.ensures
+returns c =
+    let s : SessionState = view_of c.args.session.now in
+    extended c.args.lines.now c.extend.new.self c.extend.result c.extend.ensures.ran (λ xs p. p.0)
+    (YieldsList-from_flat_map _ _ _ entry_of (sales s c.args.quarter) _
+    (λ x u q k. (
+      search rules,
+      λ j b. YieldsList-at b (line_each_but _ (λ y. trade c.args.quarter x y (asks_trade s.place s.sheet x y c.args.quarter)) (map_callee u) (λ y r p m. search rules)
+          _ x (filter_callee (map_source u)) (λ y r p m. search rules) (groups_in s.place) (search rules) refl refl),
+    ))
+    (from_1_to (groups_in s.place) (search rules)) c.flat_map.ensures.closure c.flat_map.ensures.front c.flat_map.ensures.back c.flat_map.ensures.done)

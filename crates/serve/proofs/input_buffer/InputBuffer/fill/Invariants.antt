@@ -1,11 +1,12 @@
-use Rattle.std.proofs.Common.{◌≡◌, ℕ, ◌-◌, ◌<◌, ◌≤◌, get_or, vec_items}
+use Rattle.std.proofs.Common.{◌≡◌, ◌-◌, ◌≤◌, take, vec_len, vec_items}
+use Rattle.serve.specs.Capacity.{capacity}
 use Rattle.serve.proofs.input_buffer.InputBuffer.fill.Given as goal
 
 -- what was held stands at the front, and more stands behind it
 abbrev pub invariant-loop-self : goal.invariant-loop-self
 invariant-loop-self g l =
-    (l.self.start ≡ 0) × (l.initial.self.end ≤ l.self.end)
-    × ((k : ℕ) → k < l.initial.self.end → get_or (vec_items l.self.bytes) k 0 ≡ get_or (vec_items l.initial.self.bytes) k 0)
+    (l.self-inside.start ≡ 0) × (l.initial.self-inside.end ≤ l.self-inside.end) × (l.self-inside.end ≤ capacity) × (vec_len l.self-inside.bytes ≡ capacity)
+    × (take l.initial.self-inside.end (vec_items l.self-inside.bytes) ≡ take l.initial.self-inside.end (vec_items l.initial.self-inside.bytes))
 
 abbrev pub decreases-loop-self : goal.decreases-loop-self
-decreases-loop-self g l = l.wanted - l.self.end
+decreases-loop-self g l = l.wanted - l.self-inside.end

@@ -1,0 +1,106 @@
+//! A session between an input and an output.
+ghost use Rattle.std.specs.Prelude.{◌≡◌, ◌≤◌, length, IfOk, IfSome, nat_le};
+ghost use Rattle.serve.specs.Capacity.{capacity};
+ghost use Rattle.session.specs.Frames.{frame_head};
+
+use crate::input_buffer::InputBuffer;
+use session::frame::{FRAME_HEAD, body_length};
+use session::reply::Reply;
+use session::session::Session;
+use std::alloc::Global;
+use std::io;
+use std::io::{BufWriter, Read, Write};
+
+/// A session of at most so many groups, which takes the frames of an input and prints what it answers.
+#[derive(Drop)]
+pub(crate) struct Service<R, W: Write + Drop> {
+    heap: Global,
+    most: u8,
+    input: InputBuffer<R>,
+    output: BufWriter<W>,
+    session: Session,
+}
+
+impl<R: Read + Drop, W: Write + Drop> Service<R, W> {
+    /// A service before its first frame.
+    pub(crate) fn new(heap: Global, most: u8, input: R, output: W) -> io::Result<Service<R, W>> {
+        Ok(Service {
+            heap,
+            most,
+            input: InputBuffer::new(heap, input)?,
+            output: BufWriter::new(heap, output)?,
+            session: Session::new(heap),
+        })
+    }
+
+    /// Takes frame after frame until one ends the session, or the input ends, and answers the session
+    /// as the last frame left it.
+    pub(crate) fn serve(mut self) -> io::Result<Session> {
+        // A loop that waits on input is written as a count, which no input reaches.
+        for _ in 0..u64::MAX {
+            let Some(reply) = self.take_frame()? else {
+                break;
+            };
+            self.print(reply)?;
+            if let Reply::Stop = reply {
+                break;
+            }
+        }
+        self.output.flush()?;
+        Ok(self.session)
+    }
+
+    /// Takes the next frame and answers the session's reply to it, or nothing where the input has ended.
+    fn take_frame(&mut self) -> io::Result<Option<Reply>> {
+        if !self.wait_for(FRAME_HEAD)? {
+            let cut_short = self.input.held() > 0;
+            return Ok(cut_short.then_some(Reply::Stop));
+        }
+        let mut head = [0u8; FRAME_HEAD];
+        head.copy_from_slice(self.input.front(FRAME_HEAD));
+        let Some(length) = self.read_body(head)? else {
+            return Ok(Some(Reply::Stop));
+        };
+        let body = &self.input.front(length)[FRAME_HEAD..];
+        let reply = self.session.step_for(self.heap, self.most, head[0], body)?;
+        self.input.consume(length);
+        Ok(Some(reply))
+    }
+
+    /// Waits for the body of a frame, which follows its head, and answers the length of both, or nothing
+    /// where the head announces too much or the body is cut short.
+    fn read_body(&mut self, head: [u8; FRAME_HEAD]) -> io::Result<Option<usize>>
+        ensures { IfOk result (λ o. IfSome o (λ n. (frame_head ≤ n) × (n ≤ length self.new.input))) }
+    {
+        let Some(size) = body_length(head) else {
+            return Ok(None);
+        };
+        let length = FRAME_HEAD + size;
+        let whole = self.wait_for(length)?;
+        Ok(whole.then_some(length))
+    }
+
+    /// Answers whether so many bytes are held, after more was read where they were not. What was
+    /// answered goes out before more is waited for.
+    fn wait_for(&mut self, wanted: usize) -> io::Result<bool>
+        requires { wanted ≤ capacity }
+        ensures { IfOk result (λ enough. enough ≡ nat_le wanted (length self.new.input)) }
+    {
+        if wanted <= self.input.held() {
+            return Ok(true);
+        }
+        self.output.flush()?;
+        self.input.fill(wanted)
+    }
+
+    /// Prints a reply: its line, or the result rows of a close.
+    fn print(&mut self, reply: Reply) -> io::Result<()> {
+        if let Reply::Closed = reply {
+            for row in self.session.rows() {
+                writeln!(self.output, "{row}")?;
+            }
+            return Ok(());
+        }
+        writeln!(self.output, "{reply}")
+    }
+}
