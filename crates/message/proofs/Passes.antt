@@ -1,7 +1,8 @@
 -- Checks that have nothing to look for.
-use Rattle.std.proofs.Common.{◌≡◌, ℕ, zero, suc, ◌+◌, ◌<◌, Bool, true, false, not, ◌&&◌, ◌||◌, eqb, ltb, leb, List, is_ok, Some, None, Ok, Err, sym, refl, ap, ◌∙◌, add-one, arith}
+use Rattle.std.proofs.Common.{◌≡◌, ℕ, zero, suc, ◌+◌, ◌<◌, Bool, true, false, not, ◌&&◌, ◌||◌, eqb, ltb, leb, List, [], ◌∷◌, length, get_or, is_ok, Some, None, Ok, Err, sym, refl, ap, ◌∙◌, add-one, arith}
 use Rattle.std.proofs.lemmas.Bool.{and_left, and_right, cond-false}
 use Rattle.std.proofs.lemmas.Bool.Decides.{nat_tests}
+use Rattle.forms.specs.Bytes.{be32}
 use Rattle.forms.specs.Checks.{Verdict, and_then, refuse_if, each_of}
 use Rattle.forms.specs.declared.fault.Fault.{Fault}
 use Rattle.forms.proofs.Firsts.{each_none, each_all}
@@ -64,3 +65,22 @@ module _ (q : ℕ) (s : List ℕ) (i : ℕ) where
 
   pub opposed_alone : place_under s 2 (counter_at s i) ≡ None → in_series q (opposed_check q s) i ≡ Ok tt
   opposed_alone h = each_all _ q (λ t l. let none = value_missing q s 2 (counter_at s i) t h in grind (arith, nat_tests))
+
+-- what is left of the words of series i before quarter hour t is the words from t on
+pub record Left (q : ℕ) (s : List ℕ) (i t : ℕ) (words : List (List ℕ)) : Type 0 where
+  pub count : t + length words ≡ q
+  pub each : (k : ℕ) → k < length words → be32 (get_or words k []) 0 ≡ value_at q s i (t + k)
+
+pub left_all : (q : ℕ) (s : List ℕ) (i : ℕ) (words : List (List ℕ)) → length words ≡ q → ((k : ℕ) → k < q → be32 (get_or words k []) 0 ≡ value_at q s i k)
+    → Left q s i 0 words
+left_all q s i words n h = record { count = omega (arith, n); each = λ k l. let e : k ≡ 0 + k = omega arith in h k (omega arith) ∙ ap (value_at q s i) e }
+
+module _ (q : ℕ) (s : List ℕ) (i t : ℕ) (word : List ℕ) (words : List (List ℕ)) (left : Left q s i t (word ∷ words)) where
+  pub left_first : be32 word 0 ≡ value_at q s i t
+  left_first = let e : t + 0 ≡ t = omega arith in left.each 0 (omega arith) ∙ ap (value_at q s i) e
+
+  pub left_next : Left q s i (t + 1) words
+  left_next = record {
+    count = omega (arith, left.count);
+    each = λ k l. let e : t + suc k ≡ t + 1 + k = omega arith in left.each (suc k) (omega arith) ∙ ap (value_at q s i) e;
+  }

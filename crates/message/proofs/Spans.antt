@@ -1,7 +1,8 @@
 -- Where values stand, and that they stand within the message.
-use Rattle.std.proofs.Common.{◌≡◌, ℕ, ◌+◌, ◌*◌, ◌<◌, ◌≤◌, List, length, take, drop, Ok, ap, ◌∙◌, add_assoc, add-mul, arith}
+use Rattle.std.proofs.Common.{◌≡◌, ℕ, zero, suc, ◌+◌, ◌*◌, ◌<◌, ◌≤◌, List, [], length, get_or, take, drop, Ok, sym, refl, ap, ◌∙◌, add_assoc, add-mul, arith}
+use Rattle.std.specs.Simd.{first_chunks}
 use Rattle.std.proofs.lemmas.Nat.{mul-le}
-use Rattle.std.proofs.lemmas.List.{length-take-le, length-drop, get_or-take, get_or-drop}
+use Rattle.std.proofs.lemmas.List.{length-take-le, length-drop, drop-drop, get_or-take, get_or-drop}
 use Rattle.forms.specs.Bytes.{byte, be32}
 use Rattle.std.proofs.lemmas.Bool.Decides.{nat_tests}
 use Rattle.message.specs.declared.Header.{Header}
@@ -30,6 +31,22 @@ be32_part s a n k h =
 -- a value out of the bytes of its series
 pub value_of_bytes : (q : ℕ) (s : List ℕ) (i t : ℕ) → t < q → be32 (values_at q s i) (4 * t) ≡ value_at q s i t
 value_of_bytes q s i t h = be32_part s (values_start q s i) (4 * q) (4 * t) (omega arith) ∙ value_from_start q s i t
+
+chunk_at : {X : Type 0} (n k : ℕ) (xs : List X) (i : ℕ) (d : List X) → i < k → get_or (first_chunks n k xs) i d ≡ take n (drop (i * n) xs)
+chunk_at n zero xs i d h = absurd (omega arith)
+chunk_at n (suc k) xs zero d h = let e : 0 ≡ 0 * n = omega arith in ap (λ m. take n (drop m xs)) e
+chunk_at n (suc k) xs (suc i) d h =
+    let e : n + i * n ≡ suc i * n = omega arith in
+    chunk_at n k (drop n xs) i d (omega arith) ∙ ap (take n) (drop-drop (i * n) n xs) ∙ ap (λ m. take n (drop m xs)) e
+
+-- a value out of the four bytes of it
+pub value_of_chunk : (q : ℕ) (s : List ℕ) (i k t : ℕ) → t < q → t < k
+    → be32 (get_or (first_chunks 4 k (values_at q s i)) t []) 0 ≡ value_at q s i t
+value_of_chunk q s i k t h l =
+    ap (λ w. be32 w 0) (chunk_at 4 k (values_at q s i) t [] l)
+    ∙ be32_part (values_at q s i) (t * 4) 4 0 (omega arith)
+    ∙ (let e : t * 4 + 0 ≡ 4 * t = omega arith in ap (be32 (values_at q s i)) e)
+    ∙ value_of_bytes q s i t h
 
 module _ (q : ℕ) (s : List ℕ) (i : ℕ) (formed : Formed q s) (there : i < series_count s) where
   -- the values of series i end within the message

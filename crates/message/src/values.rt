@@ -1,13 +1,13 @@
 //! Which values a message may have.
-ghost use Rattle.std.specs.Prelude.{◌≡◌, ◌<◌, false, is_ok, true, Some};
-ghost use Rattle.message.specs.Form.{series_count, kind_at, counter_at};
+ghost use Rattle.std.specs.Prelude.{◌≡◌, ℕ, ◌<◌, false, true, length, slice_index_or, is_ok, Some, []};
+ghost use Rattle.forms.specs.Bytes.{be32};
+ghost use Rattle.message.specs.Form.{series_count, kind_at, counter_at, value_at};
 ghost use Rattle.message.specs.Places.{place_under};
 ghost use Rattle.message.specs.Told.{is_forecast};
 ghost use Rattle.message.specs.Values.{in_series, in_message, range_check, forecast_check, opposed_check, values_check};
 
 use crate::{Head, Message, place};
 use forms::bounds::POWER_BOUND;
-use forms::bytes::be32_at;
 use forms::checks::in_order;
 use forms::fault::Fault;
 use forms::slot::{CONS, IN, OUT, PUMP};
@@ -20,15 +20,24 @@ fn is_forecast(kind: u8) -> bool
 }
 
 impl<'a> Message<'a> {
+    /// The values of series `i`, each in its four bytes.
+    fn words(&self, i: u8) -> &'a [[u8; 4]]
+        requires { i < series_count self.now.bytes.now }
+        ensures count { length result.now ≡ self.now.quarters }
+        ensures each { (t : ℕ) → t < self.now.quarters → be32 (slice_index_or result.now t []) 0 ≡ value_at self.now.quarters self.now.bytes.now i t }
+    {
+        let (words, _) = self.values(i).as_chunks();
+        words
+    }
+
     /// Whether no value of series `i` is above the bound, in one plain pass.
     fn is_within(&self, i: u8) -> bool
         requires { i < series_count self.now.bytes.now }
         ensures { result ≡ is_ok (in_series self.now.quarters (range_check self.now.quarters self.now.bytes.now) i) }
     {
-        let values = self.values(i);
         let mut within = true;
-        for t in 0..self.quarters as usize {
-            within &= be32_at(values, 4 * t) <= POWER_BOUND;
+        for word in self.words(i) {
+            within &= u32::from_be_bytes(*word) <= POWER_BOUND;
         }
         within
     }
@@ -95,11 +104,9 @@ impl<'a> Message<'a> {
         requires into { place_under self.now.bytes.now 2 (counter_at self.now.bytes.now i) ≡ Some opposite }
         ensures { result ≡ is_ok (in_series self.now.quarters (opposed_check self.now.quarters self.now.bytes.now) i) }
     {
-        let out = self.values(i);
-        let into = self.values(opposite);
         let mut unopposed = true;
-        for t in 0..self.quarters as usize {
-            unopposed &= (be32_at(out, 4 * t) == 0) | (be32_at(into, 4 * t) == 0);
+        for (out, into) in self.words(i).iter().zip(self.words(opposite)) {
+            unopposed &= (u32::from_be_bytes(*out) == 0) | (u32::from_be_bytes(*into) == 0);
         }
         unopposed
     }

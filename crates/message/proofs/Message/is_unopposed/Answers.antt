@@ -1,33 +1,45 @@
-use Rattle.std.proofs.Common.{◌≡◌, ◌*◌, length, is_ok, ap, ◌∙◌, arith}
-use Rattle.forms.specs.Bytes.{be32}
+use Rattle.std.proofs.Common.{◌≡◌, ◌+◌, ◌<◌, ◌∷◌, ◌++◌, [], length, is_ok, ap, ◌∙◌, inl, inr, arith, rules, length-append}
 use Rattle.forms.specs.Checks.{each_of}
 use Rattle.message.specs.Values.{opposed_check}
-use Rattle.message.proofs.Passes.{ok_none, ok_more, opposed_ok}
-use Rattle.message.proofs.Spans.{value_of_bytes, length_values}
+use Rattle.message.proofs.Passes.{ok_none, ok_more, opposed_ok, Left, left_first, left_next, left_all}
 use Rattle.message.proofs.Message.is_unopposed.Goals as goal
 
-pub be32_at-requires : goal.be32_at-requires
-be32_at-requires c =
-    omega (arith, ap length c.values-out.ensures, length_values c.args.self.now.quarters c.args.self.now.bytes.now c.args.i c.args.self.now.formed c.requires.there.0)
-
-pub be32_at-requires-in-loop-t : goal.be32_at-requires-in-loop-t
-be32_at-requires-in-loop-t c =
-    omega (arith, ap length c.values-into.ensures, length_values c.args.self.now.quarters c.args.self.now.bytes.now c.args.opposite c.args.self.now.formed c.requires.there.1)
-
-pub loop-t-init : goal.loop-t-init
-loop-t-init c = ok_none _
-
-pub loop-t-preserved : goal.loop-t-preserved
-loop-t-preserved c =
+pub loop-out-init : goal.loop-out-init
+loop-out-init c =
     let q = c.args.self.now.quarters in
-    let form = c.args.self.now.bytes.now in
-    let t = c.loop-t.t in
-    let out = c.be32_at.ensures ∙ ap (λ v. be32 v (4 * t)) c.values-out.ensures ∙ value_of_bytes q form c.args.i t c.loop-t-test.true in
-    let into = c.be32_at-in-loop-t.ensures ∙ ap (λ v. be32 v (4 * t)) c.values-into.ensures ∙ value_of_bytes q form c.args.opposite t c.loop-t-test.true in
-    ok_more _ t _ _ c.loop-t.invariant (opposed_ok q form c.args.i c.args.opposite t _ _ c.requires.out c.requires.into out into)
+    let s = c.args.self.now.bytes.now in
+    let a : c.into_iter-out-iterator.result.a.rest.now ≡ c.words.result.now = search rules in
+    let b : c.into_iter-out-iterator.result.b.rest.now ≡ c.words-2.result.now = search rules in
+    record {
+      held = ok_none _;
+      out = rw a (left_all q s c.args.i _ c.words.ensures.count c.words.ensures.each);
+      into = rw b (left_all q s c.args.opposite _ c.words-2.ensures.count c.words-2.ensures.each);
+    }
+
+pub loop-out-preserved : goal.loop-out-preserved
+loop-out-preserved c =
+    let q = c.args.self.now.quarters in
+    let s = c.args.self.now.bytes.now in
+    let t = length c.loop-out.yielded in
+    let steps = c.in-Some.ensures.steps in
+    let out = rw steps.0 at c.loop-out.invariant.out in
+    let into = rw steps.1 at c.loop-out.invariant.into in
+    let more : length (c.loop-out.yielded ++ (c.in-Some.out, c.in-Some.into) ∷ []) ≡ t + 1 = length-append c.loop-out.yielded _ in
+    let x = c.from_be_bytes.ensures ∙ left_first q s c.args.i t _ _ out in
+    let y = c.from_be_bytes-in-loop-out.ensures ∙ left_first q s c.args.opposite t _ _ into in
+    rw more (record {
+      held = ok_more _ t _ _ c.loop-out.invariant.held (opposed_ok q s c.args.i c.args.opposite t _ _ c.requires.out c.requires.into x y);
+      out = left_next q s c.args.i t _ _ out;
+      into = left_next q s c.args.opposite t _ _ into;
+    })
 
 pub returns : goal.returns
 returns c =
     let q = c.args.self.now.quarters in
-    let all : c.loop-t.t ≡ q = omega (arith, c.loop-t-test.false, c.loop-t.auto.t-end) in
-    c.loop-t.invariant ∙ ap (λ n. is_ok (each_of (opposed_check q c.args.self.now.bytes.now c.args.i) n)) all
+    let all : length c.loop-out.yielded ≡ q =
+      elim c.in-None.ensures.steps [
+        | inl x ↦ omega (arith, x.1.0, c.loop-out.invariant.out.count)
+        | inr x ↦ omega (arith, x.1.0, c.loop-out.invariant.into.count)
+      ]
+    in
+    c.loop-out.invariant.held ∙ ap (λ n. is_ok (each_of (opposed_check q c.args.self.now.bytes.now c.args.i) n)) all
