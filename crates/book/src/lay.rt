@@ -66,13 +66,9 @@ impl Sending<'_, '_, '_> {
             version: self.version,
             ..ledger.account(self.own)
         };
-        // a struct with ghost fields takes no `..`
-        Ledger {
-            opening: ledger.opening,
-            closed: ledger.closed,
-            phase: ledger.phase,
-            sent: self.flags_after(),
-            accounts,
-        }
+        let mut next = *ledger;
+        next.sent = self.flags_after();
+        next.accounts = accounts;
+        next
     }
 }
