@@ -1,5 +1,5 @@
 -- All bits of some words together.
-use Rattle.std.proofs.Common.{◌≡◌, ℕ, ◌+◌, ◌<◌, ◌≤◌, Bool, true, false, ◌&&◌, leb, List, [], ◌∷◌, length, get_or, drop, fold, sym, refl, ap, ◌∙◌, arith}
+use Rattle.std.proofs.Common.{◌≡◌, ℕ, ◌≤◌, true, ◌&&◌, List, [], ◌∷◌, fold, refl, arith}
 use lib.Bits.{bit_or, or_add_and}
 use Rattle.forms.specs.Bounds.{power_bound}
 use Rattle.std.proofs.lemmas.Nat.{and_le_l, and_le_r}

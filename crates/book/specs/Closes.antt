@@ -1,5 +1,5 @@
 -- What close does.
-use Rattle.std.specs.Prelude.{◌≡◌, ℕ, ◌+◌, Bool, false, not, List, map, length, replicate, ℤ, ◌+ℤ◌, Ok, Err, ◌==◌}
+use Rattle.std.specs.Prelude.{◌≡◌, ℕ, ◌+◌, Bool, false, not, List, map, length, replicate, ℤ, ◌+ℤ◌, Ok, ◌==◌}
 use Rattle.std.specs.List.{range_with_len}
 use Rattle.forms.specs.declared.fault.Fault.TheVariants.{WrongPhase, WrongBuffer}
 use Rattle.forms.specs.Checks.{Verdict, and_then, refuse_if}

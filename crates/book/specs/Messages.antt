@@ -12,7 +12,7 @@ use Rattle.message.specs.Values.{values_check}
 use Rattle.message.specs.Places.{first_of, sent_in, stated}
 use Rattle.settlement.specs.declared.phase.Phase.TheVariants.{After}
 use Rattle.settlement.specs.Positions.{stated_open, excess, as_far_out}
-use Rattle.settlement.specs.Sheets.{Statements, slots, slot_at, sheet_size, words_per_slot}
+use Rattle.settlement.specs.Sheets.{Statements, slots, slot_at, words_per_slot}
 use Rattle.book.specs.declared.answers.Submitted.{Submitted}
 use Rattle.book.specs.Cuts.{is_after}
 use Rattle.book.specs.Queries.{answer_if, if_passed, day_check, group_check}

@@ -1,5 +1,5 @@
 -- What open does, and what a place holds.
-use Rattle.std.specs.Prelude.{ℕ, false, not, List, length, replicate, Some, None, Ok, Err, Option}
+use Rattle.std.specs.Prelude.{ℕ, false, not, List, length, replicate, Some, None, Option}
 use Rattle.forms.specs.declared.fault.Fault.TheVariants.{WrongBuffer}
 use Rattle.forms.specs.Checks.{Verdict, and_then, refuse_if}
 use Rattle.forms.specs.Figures.{Terms}

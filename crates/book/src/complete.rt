@@ -31,7 +31,10 @@ impl Sending<'_, '_, '_> {
     {
         let ledger = self.day.ledger;
         ledger.sent[ledger.place(self.own, number)]
-            && self.message.find(slot_at(ledger.groups(), number)).is_none()
+            && self
+                .message
+                .find(slot_at(ledger.groups(), number))
+                .is_none()
     }
 
     /// Whether a series that the group has had accepted today is left out.

@@ -1,5 +1,4 @@
-use Rattle.std.proofs.Common.{◌≡◌, ap, ◌∙◌, arith}
-use Rattle.book.specs.Messages.{series_laid}
+use Rattle.std.proofs.Common.{◌∙◌, arith}
 use Rattle.book.proofs.Laying.{laid_none, laid_more}
 use Rattle.book.proofs.lay.lay_series.Goals as goal
 

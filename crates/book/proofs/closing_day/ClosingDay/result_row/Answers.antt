@@ -1,4 +1,4 @@
-use Rattle.std.proofs.Common.{◌≡◌, ℕ, ◌+◌, ◌<◌, Bool, List, nat_abs, ap, ◌∙◌, arith, w64, rules}
+use Rattle.std.proofs.Common.{ℕ, ◌+◌, ◌<◌, Bool, List, nat_abs, ap, ◌∙◌, arith, w64, rules}
 use Rattle.std.proofs.lemmas.Int.{to_z-of_z}
 use Rattle.forms.proofs.OpeningLaws.{lawful_in}
 use Rattle.stage.specs.Marked.{on_day}

@@ -1,12 +1,11 @@
-use Rattle.std.proofs.Common.{length, subst, ◌≡◌, ℕ, ◌+◌, ◌-◌, ◌<◌, Err, sym, ap, ◌∙◌, arith}
+use Rattle.std.proofs.Common.{length, subst, ◌≡◌, ℕ, ◌+◌, ◌<◌, Err, sym, ap, ◌∙◌, arith}
 use Rattle.std.proofs.lemmas.Result.{err_from_is_err_and}
 use Rattle.std.specs.Option.{option_map}
 use Rattle.settlement.specs.Sheets.{sheet_size}
-use Rattle.message.specs.Form.{said}
 use Rattle.message.specs.Places.{first_of}
 use Rattle.forms.proofs.OpeningLaws.{lawful_in}
 use Rattle.book.specs.declared.ledger.Ledger.{Ledger}
-use Rattle.book.specs.Messages.{Read, submit_check, beyond_now, beyond_at, beyond_count, count_where, state_with, sheet_after}
+use Rattle.book.specs.Messages.{Read, beyond_now, beyond_at, beyond_count, count_where, state_with, sheet_after}
 use Rattle.book.specs.States.{State, state_of, size, day_quarters}
 use Rattle.book.proofs.Accepted.{beyond_same, count_same, first_same}
 use Rattle.book.proofs.Days.{flags_enough}

@@ -9,8 +9,7 @@ trade-requires c =
     let a = c.in_ok-a.ensures in
     let b = c.in_ok-b.ensures in
     let t = c.in_ok-t.ensures in
-    let same = ap (λ (l : Ledger). size (state_of l)) c.in_ok-day.ensures.1.0 in
-    (
-        omega (arith, a.3, c.on_sheet.ensures.groups, same),
-        (omega (arith, b.3, c.on_sheet.ensures.groups, same), omega (arith, t.3, quarters_fit (today (state_of c.args.self.now)))),
+    let same = ap (λ (l : Ledger). size (state_of l)) c.in_ok-day.ensures.1.0 in (
+      omega (arith, a.3, c.on_sheet.ensures.groups, same),
+      (omega (arith, b.3, c.on_sheet.ensures.groups, same), omega (arith, t.3, quarters_fit (today (state_of c.args.self.now)))),
     )

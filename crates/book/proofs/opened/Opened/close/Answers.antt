@@ -1,7 +1,7 @@
-use Rattle.std.proofs.Common.{◌≡◌, ℕ, Bool, List, map, length, Ok, Err, sym, refl, ap, ◌∙◌}
+use Rattle.std.proofs.Common.{ℕ, Bool, List, map, Err, sym, refl, ap, ◌∙◌}
 use Rattle.std.proofs.lemmas.List.{length-map}
 use Rattle.std.proofs.lemmas.Result.{err_from_is_err_and}
-use Rattle.book.specs.Closes.{Lent, close_check, day_closed, day_rows, balance_today}
+use Rattle.book.specs.Closes.{Lent, close_check, day_closed, day_rows}
 use Rattle.book.specs.Rows.{row_of, balance_in_row}
 use Rattle.book.specs.States.{State, state_of}
 use Rattle.book.proofs.Closing.{close_refused, close_accepted}

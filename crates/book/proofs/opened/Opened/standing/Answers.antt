@@ -1,12 +1,11 @@
-use Rattle.std.proofs.Common.{◌≡◌, ◌-◌, not, take, sym, ap, ◌∙◌, le_refl, arith}
+use Rattle.std.proofs.Common.{◌≡◌, ◌-◌, not, take, sym, ap, ◌∙◌, le_refl}
 use Rattle.stage.specs.Marked.{marks_of, on_day}
 use Rattle.stage.specs.MarkLists.{on_day_take}
 use Rattle.forms.specs.Checks.{refuse_if}
 use Rattle.forms.specs.declared.fault.Fault.TheVariants.{WrongDay}
 use Rattle.book.specs.Queries.{one_of}
-use Rattle.book.specs.Kept.{cut_offs}
 use Rattle.book.specs.States.{State, GroupState, state_of, kept}
-use Rattle.book.proofs.Verdicts.{one_of_true, not_refused, both_passed, answered}
+use Rattle.book.proofs.Verdicts.{both_passed, answered}
 use Rattle.book.proofs.opened.Opened.standing.Goals as goal
 
 pub returns : goal.returns

@@ -1,4 +1,4 @@
-use Rattle.std.proofs.Common.{◌≡◌, ℕ, ◌+◌, ◌-◌, ◌<◌, ◌≤◌, List, [], ◌++◌, length, get_or, take, drop, sym, ap, ◌∙◌, inl, inr, arith, rules}
+use Rattle.std.proofs.Common.{◌≡◌, ℕ, ◌+◌, ◌-◌, ◌<◌, ◌≤◌, List, [], length, get_or, take, drop, sym, ap, ◌∙◌, inl, inr, arith, rules}
 use Rattle.std.proofs.lemmas.List.{get_or-take, get_or_append_left, get_or-append_right, get_or-drop, length-append, length-take-le, length-drop}
 use Rattle.std.proofs.lemmas.Bool.{cases_lt}
 use Rattle.forms.specs.Bytes.{be32}
@@ -29,10 +29,10 @@ returns-in-Some-clause-value c = λ t l.
     let cut : length (take n xs) ≡ n = length-take-le n xs (omega (arith, c.requires.0, same, c.args.self.now.read.quarters, quarters_fit (today (state_of c.args.self.now.day.ledger.now)))) in
     let within : t < n = omega (arith, same, c.args.self.now.read.quarters) in
     let added = c.add_words.ensures.value (value_at q form i)
-        (λ u w h p.
-        let read : w ≡ be32 (get_or {A = List ℕ} c.words-words.result.now u []) 0 = search rules in
-        read ∙ c.words-words.ensures.each u (omega (arith, cut, same)))
-        t (omega (arith, cut)) in
+    (λ u w h p.
+    let read : w ≡ be32 (get_or {A = List ℕ} c.words-words.result.now u []) 0 = search rules in
+    read ∙ c.words-words.ensures.each u (omega (arith, cut, same)))
+    t (omega (arith, cut)) in
     get_or_append_left ys (drop n xs) 0 t (omega (arith, c.add_words.auto.sums, cut))
     ∙ added ∙ ap (λ v. v + value_at q form i t) (get_or-take n xs t 0 within)
     ∙ ap (λ v. get_or xs t 0 + v) (sym (value_found _ _ _ _ _ t (sym c.in-Some.ensures.value)))
