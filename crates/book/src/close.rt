@@ -81,14 +81,12 @@ impl ClosingDay<'_, '_, '_> {
         for (a, row) in rows.iter().enumerate() {
             accounts[a] = ledger.account(a).day_done(row.balance);
         }
-        // a struct with ghost fields takes no `..`
-        Ledger {
-            opening: ledger.opening,
-            closed: ledger.closed + 1,
-            phase: Phase::Ahead,
-            sent: nothing_sent(),
-            accounts,
-        }
+        let mut next = *ledger;
+        next.closed += 1;
+        next.phase = Phase::Ahead;
+        next.sent = nothing_sent();
+        next.accounts = accounts;
+        next
     }
 }
 

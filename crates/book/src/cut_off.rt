@@ -54,14 +54,10 @@ impl OpenDay<'_, '_> {
             let energy = day.day_excess(&ledger.figures(a), a, quarters);
             accounts[a] = ledger.account(a).charged(rule, &ledger.opening, energy);
         }
-        // a struct with ghost fields takes no `..`
-        Ledger {
-            opening: ledger.opening,
-            closed: ledger.closed,
-            phase: Phase::After,
-            sent: ledger.sent,
-            accounts,
-        }
+        let mut next = *ledger;
+        next.phase = Phase::After;
+        next.accounts = accounts;
+        next
     }
 }
 
@@ -71,14 +67,9 @@ impl Ledger {
         requires { self.now.phase ≡ Ahead }
         ensures { state_of result ≡ in_phase (state_of self.now) Near }
     {
-        // a struct with ghost fields takes no `..`
-        Ledger {
-            opening: self.opening,
-            closed: self.closed,
-            phase: Phase::Near,
-            sent: self.sent,
-            accounts: self.accounts,
-        }
+        let mut next = *self;
+        next.phase = Phase::Near;
+        next
     }
 }
 

@@ -11,7 +11,6 @@ ghost use Rattle.book.specs.Messages.{by_message, each_growth, growth_check};
 ghost use Rattle.book.specs.States.{state_of, size, day_quarters};
 
 use crate::sending::Sending;
-use forms::bytes::be32_at;
 use forms::fault::Fault;
 use forms::group::Group;
 use forms::slot::Slot;
@@ -56,9 +55,8 @@ impl Sending<'_, '_, '_> {
         ensures bound { Grows sums.old sums.new }
     {
         if let Some(i) = self.message.find(slot) {
-            let values = self.message.values(i);
-            let quarters = self.day.ledger.quarters() as usize;
-            add_words(&mut sums[..quarters], |t| be32_at(values, 4 * t));
+            let words = self.message.words(i);
+            add_words(&mut sums[..words.len()], |t| u32::from_be_bytes(words[t]));
         }
     }
 

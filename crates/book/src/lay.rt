@@ -1,6 +1,6 @@
 //! An accepted message's series into their slots.
 ghost use Rattle.std.specs.Prelude.{◌≡◌, ℕ, ◌+◌, ◌*◌, ◌<◌, ◌≤◌, length, slice_index};
-ghost use Rattle.message.specs.Form.{Formed, series_count};
+ghost use Rattle.message.specs.Form.{series_count};
 ghost use Rattle.settlement.specs.Sheets.{sheet_size};
 ghost use Rattle.book.specs.Messages.{Read, series_laid, sheet_after, flags_after, state_with};
 ghost use Rattle.book.specs.States.{state_of, size, day_quarters};
@@ -9,19 +9,17 @@ use crate::group_account::GroupAccount;
 use crate::ledger::{FLAGS, Ledger};
 use crate::sending::Sending;
 use crate::slots::slot_at;
-use forms::bytes::be32_at;
 use message::Message;
 use settlement::sheet::{WORDS_PER_SLOT, slots_per_group};
 
 /// Writes series `i` into the words of a slot that begins at `at`.
-fn lay_series(message: &Message<'_>, i: u8, quarters: u8, at: usize, sheet: &mut [u32])
-    requires formed { (Formed message.now.quarters message.now.bytes.now) × (i < series_count message.now.bytes.now) }
-    requires room { (quarters ≡ message.now.quarters) × (at + quarters ≤ length sheet.old) }
-    ensures { (k : ℕ) → slice_index sheet.new k ≡ series_laid message.now.quarters message.now.bytes.now i at quarters sheet.old k }
+fn lay_series(message: &Message<'_>, i: u8, at: usize, sheet: &mut [u32])
+    requires there { i < series_count message.now.bytes.now }
+    requires room { at + message.now.quarters ≤ length sheet.old }
+    ensures { (k : ℕ) → slice_index sheet.new k ≡ series_laid message.now.quarters message.now.bytes.now i at message.now.quarters sheet.old k }
 {
-    let values = message.values(i);
-    for t in 0..quarters as usize {
-        sheet[at + t] = be32_at(values, 4 * t);
+    for (t, word) in message.words(i).iter().enumerate() {
+        sheet[at + t] = u32::from_be_bytes(*word);
     }
 }
 
@@ -32,11 +30,10 @@ impl Ledger {
         requires sheet { length sheet.old ≡ sheet_size (size (state_of self.now)) }
         ensures { sheet.new ≡ sheet_after (size (state_of self.now)) (day_quarters (state_of self.now)) own message.now.bytes.now sheet.old }
     {
-        let quarters = self.quarters();
         for number in 0..slots_per_group(self.groups()) {
             if let Some(i) = message.find(slot_at(self.groups(), number)) {
                 let at = self.place(own, number) * WORDS_PER_SLOT;
-                lay_series(message, i, quarters, at, sheet);
+                lay_series(message, i, at, sheet);
             }
         }
     }
@@ -66,13 +63,9 @@ impl Sending<'_, '_, '_> {
             version: self.version,
             ..ledger.account(self.own)
         };
-        // a struct with ghost fields takes no `..`
-        Ledger {
-            opening: ledger.opening,
-            closed: ledger.closed,
-            phase: ledger.phase,
-            sent: self.flags_after(),
-            accounts,
-        }
+        let mut next = *ledger;
+        next.sent = self.flags_after();
+        next.accounts = accounts;
+        next
     }
 }

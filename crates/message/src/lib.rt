@@ -4,7 +4,8 @@
 //! from 1.
 #![tactic(auto)]
 
-ghost use Rattle.std.specs.Prelude.{◌≡◌, ◌+◌, ◌*◌, ◌<◌, ◌≤◌, length};
+ghost use Rattle.std.specs.Prelude.{◌≡◌, ℕ, ◌+◌, ◌*◌, ◌<◌, ◌≤◌, length, slice_index_or, []};
+ghost use Rattle.forms.specs.Bytes.{be32};
 ghost use Rattle.message.specs.Form.{Formed, series_count, said, head_of, value_at, values_at, values_start};
 
 pub mod find;
@@ -114,5 +115,15 @@ impl<'a> Message<'a> {
     {
         let start = self.start(i);
         &self.bytes[start..start + 4 * self.quarters as usize]
+    }
+
+    /// The values of series `i`, each in its four bytes.
+    pub fn words(&self, i: u8) -> &'a [[u8; 4]]
+        requires { i < series_count self.now.bytes.now }
+        ensures count { length result.now ≡ self.now.quarters }
+        ensures each { (t : ℕ) → t < self.now.quarters → be32 (slice_index_or result.now t []) 0 ≡ value_at self.now.quarters self.now.bytes.now i t }
+    {
+        let (words, _) = self.values(i).as_chunks();
+        words
     }
 }

@@ -1,7 +1,6 @@
 //! Which values a message may have.
-ghost use Rattle.std.specs.Prelude.{◌≡◌, ℕ, ◌<◌, false, true, length, slice_index_or, is_ok, Some, []};
-ghost use Rattle.forms.specs.Bytes.{be32};
-ghost use Rattle.message.specs.Form.{series_count, kind_at, counter_at, value_at};
+ghost use Rattle.std.specs.Prelude.{◌≡◌, ◌<◌, false, true, is_ok, Some};
+ghost use Rattle.message.specs.Form.{series_count, kind_at, counter_at};
 ghost use Rattle.message.specs.Places.{place_under};
 ghost use Rattle.message.specs.Told.{is_forecast};
 ghost use Rattle.message.specs.Values.{in_series, in_message, range_check, forecast_check, opposed_check, values_check};
@@ -20,16 +19,6 @@ fn is_forecast(kind: u8) -> bool
 }
 
 impl<'a> Message<'a> {
-    /// The values of series `i`, each in its four bytes.
-    fn words(&self, i: u8) -> &'a [[u8; 4]]
-        requires { i < series_count self.now.bytes.now }
-        ensures count { length result.now ≡ self.now.quarters }
-        ensures each { (t : ℕ) → t < self.now.quarters → be32 (slice_index_or result.now t []) 0 ≡ value_at self.now.quarters self.now.bytes.now i t }
-    {
-        let (words, _) = self.values(i).as_chunks();
-        words
-    }
-
     /// Whether no value of series `i` is above the bound, in one plain pass.
     fn is_within(&self, i: u8) -> bool
         requires { i < series_count self.now.bytes.now }

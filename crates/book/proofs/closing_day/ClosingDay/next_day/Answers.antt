@@ -67,4 +67,4 @@ returns c =
     let groups =
     take-map account_of (size s) c.loop-a.accounts
     ∙ written_all account_of (closed_group s amounts) c.loop-a.accounts c.loop-a.a (size s) all c.loop-a.invariant.1 in
-    λ j. record { terms = s.terms; closed = s.closed + 1; phase = Ahead; sent = c.nothing_sent.ensures j; groups = groups j }
+    λ j. record { terms = s.terms; closed = s.closed + 1; phase = Ahead; sent = c.nothing_sent-next.ensures j; groups = groups j }

@@ -2,7 +2,8 @@ use Rattle.std.proofs.Common.{◌≡◌, ℕ, ◌+◌, ◌*◌, ◌<◌, get_or,
 use Rattle.message.specs.Places.{place_of}
 use Rattle.settlement.specs.Sheets.{slots, slot_at}
 use Rattle.book.specs.Messages.{series_laid}
-use Rattle.book.specs.States.{State, state_of, size, day_quarters}
+use Rattle.book.specs.States.{State, state_of, size, today, day_quarters}
+use Rattle.book.proofs.Days.{quarters_fit}
 use Rattle.book.proofs.Laying.{slots_laid, slots_none, slots_skip, slots_write, slots_all}
 use Rattle.book.proofs.ledger.Ledger.lay.Goals as goal
 use Rattle.book.proofs.ledger.Ledger.lay.Goals.{in-Some, in_default}
@@ -12,11 +13,8 @@ loop-number-init c = slots_none _ _ _ _ _
 
 pub lay_series-requires : goal.lay_series-requires
 lay_series-requires c = record {
-  formed = (c.requires.read.formed, c.in-Some.ensures.first.0);
-  room = (
-    c.quarters-quarters.ensures.value ∙ sym c.requires.read.quarters,
-    omega (arith, c.place-at.ensures.room, c.quarters-quarters.ensures.few, c.loop-number.auto.sheet, c.requires.sheet),
-  );
+  there = c.in-Some.ensures.first.0;
+  room = omega (arith, c.place-at.ensures.room, c.requires.read.quarters, quarters_fit (today (state_of c.args.self.now)), c.loop-number.auto.sheet, c.requires.sheet);
 }
 
 pub loop-number-preserved : goal.loop-number-preserved
@@ -37,12 +35,11 @@ loop-number-preserved c =
           let found : place_of form (slot_at g n) ≡ Some i = ap (place_of form) (sym slot) ∙ sym w.in-Some.ensures.value in
           let ys = w.lay_series.new.sheet in
           let of-day = c.requires.read.quarters in
-          let all = c.quarters-quarters.ensures.value in
           let at : w.place-at.result * 96 ≡ (own * slots g + n) * 96 = ap (λ p. p * 96) w.place-at.ensures.value in
           let written : (k : ℕ) → get_or ys k 0 ≡ series_laid q form i ((own * slots g + n) * 96) q xs k =
-          λ k. w.lay_series.ensures k ∙ (λ j. series_laid (of-day j) form i (at j) (all j) xs k) in
+          λ k. w.lay_series.ensures k ∙ (λ j. series_laid (of-day j) form i (at j) (of-day j) xs k) in
           λ k. ap (λ zs. get_or zs k 0) w.sheet-is
-          ∙ slots_write g q own form sheet n below i xs ys (omega (arith, all, c.quarters-quarters.ensures.few)) found c.loop-number.invariant written k
+          ∙ slots_write g q own form sheet n below i xs ys (quarters_fit (today s)) found c.loop-number.invariant written k
       | in_default w ↦
           let missing : place_of form (slot_at g n) ≡ None = ap (place_of form) (sym slot) ∙ sym w.in_default.ensures.value in
           λ k. ap (λ zs. get_or zs k 0) w.sheet-is ∙ c.loop-number.invariant k ∙ slots_skip g q own form sheet n below missing k

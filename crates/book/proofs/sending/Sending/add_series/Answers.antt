@@ -1,11 +1,21 @@
-use Rattle.std.proofs.Common.{◌≡◌, ℕ, ◌+◌, ◌-◌, ◌*◌, ◌<◌, ◌≤◌, ◌++◌, length, get_or, take, drop, sym, ap, ◌∙◌, inl, inr, arith, rules}
+use Rattle.std.proofs.Common.{◌≡◌, ℕ, ◌+◌, ◌-◌, ◌<◌, ◌≤◌, List, [], ◌++◌, length, get_or, take, drop, sym, ap, ◌∙◌, inl, inr, arith, rules}
 use Rattle.std.proofs.lemmas.List.{get_or-take, get_or_append_left, get_or-append_right, get_or-drop, length-append, length-take-le, length-drop}
 use Rattle.std.proofs.lemmas.Bool.{cases_lt}
 use Rattle.forms.specs.Bytes.{be32}
 use Rattle.message.specs.Form.{value_at}
-use Rattle.message.proofs.Spans.{value_of_bytes}
 use Rattle.message.proofs.Stated.{value_found, value_missing}
+use Rattle.book.specs.States.{state_of, today}
+use Rattle.book.proofs.Days.{quarters_fit}
 use Rattle.book.proofs.sending.Sending.add_series.Goals as goal
+
+pub slice_bounds-add_words-end : goal.slice_bounds-add_words-end
+slice_bounds-add_words-end c = omega (arith, c.requires.0, c.words-words.ensures.count, c.args.self.now.read.quarters, quarters_fit (today (state_of c.args.self.now.day.ledger.now)))
+
+pub slice_bounds-add_words-end-in-Some : goal.slice_bounds-add_words-end-in-Some
+slice_bounds-add_words-end-in-Some c =
+    let n = length c.words-words.result.now in
+    let few : n ≤ length c.args.sums.now = omega (arith, c.requires.0, c.words-words.ensures.count, c.args.self.now.read.quarters, quarters_fit (today (state_of c.args.self.now.day.ledger.now))) in
+    omega (arith, length-take-le n c.args.sums.now few)
 
 pub returns-in-Some-clause-value : goal.returns-in-Some-clause-value
 returns-in-Some-clause-value c = λ t l.
@@ -14,14 +24,14 @@ returns-in-Some-clause-value c = λ t l.
     let i = c.in-Some.i in
     let xs = c.args.sums.now in
     let ys = c.add_words.new.sums in
-    let n = c.quarters-quarters.result in
-    let same : n ≡ q = c.quarters-quarters.ensures.value ∙ sym c.args.self.now.read.quarters in
-    let cut : length (take n xs) ≡ n = length-take-le n xs (omega (arith, c.requires.0, c.quarters-quarters.ensures.few)) in
-    let within : t < n = omega (arith, c.quarters-quarters.ensures.value) in
+    let n = length c.words-words.result.now in
+    let same : n ≡ q = c.words-words.ensures.count in
+    let cut : length (take n xs) ≡ n = length-take-le n xs (omega (arith, c.requires.0, same, c.args.self.now.read.quarters, quarters_fit (today (state_of c.args.self.now.day.ledger.now)))) in
+    let within : t < n = omega (arith, same, c.args.self.now.read.quarters) in
     let added = c.add_words.ensures.value (value_at q form i)
         (λ u w h p.
-        let read : w ≡ be32 c.values-values.result.now (4 * u) = search rules in
-        read ∙ ap (λ v. be32 v (4 * u)) c.values-values.ensures ∙ value_of_bytes q form i u (omega (arith, cut, same)))
+        let read : w ≡ be32 (get_or {A = List ℕ} c.words-words.result.now u []) 0 = search rules in
+        read ∙ c.words-words.ensures.each u (omega (arith, cut, same)))
         t (omega (arith, cut)) in
     get_or_append_left ys (drop n xs) 0 t (omega (arith, c.add_words.auto.sums, cut))
     ∙ added ∙ ap (λ v. v + value_at q form i t) (get_or-take n xs t 0 within)
@@ -31,8 +41,8 @@ pub returns-in-Some-clause-bound : goal.returns-in-Some-clause-bound
 returns-in-Some-clause-bound c =
     let xs = c.args.sums.now in
     let ys = c.add_words.new.sums in
-    let n = c.quarters-quarters.result in
-    let few : n ≤ length xs = omega (arith, c.requires.0, c.quarters-quarters.ensures.few) in
+    let n = length c.words-words.result.now in
+    let few : n ≤ length xs = omega (arith, c.requires.0, c.words-words.ensures.count, c.args.self.now.read.quarters, quarters_fit (today (state_of c.args.self.now.day.ledger.now))) in
     let long : length ys ≡ n = c.add_words.auto.sums ∙ length-take-le n xs few in (
       omega (arith, length-append ys (drop n xs), length-drop n xs, long, few),
       λ t. elim (cases_lt t n) [

@@ -13,8 +13,8 @@ offset_bounds-accounts-self c = let l : c.args.self.now.own < 16 = omega (arith,
 pub bounds-accounts-self : goal.bounds-accounts-self
 bounds-accounts-self c = omega (arith, c.args.self.now.read.sender, (lawful_in c.args.self.now.day.ledger.now.opening).groups_most)
 
-pub invariant_of-result : goal.invariant_of-result
-invariant_of-result c =
+pub invariant_of-next : goal.invariant_of-next
+invariant_of-next c =
     let l = c.args.self.now.day.ledger.now in
     let own = c.args.self.now.own in
     let within : own < length l.accounts = omega (arith, c.args.self.now.read.sender, (lawful_in l.opening).groups_most, l.groups) in
@@ -40,4 +40,4 @@ returns c =
     let groups =
     own_set (size s) l.accounts own _ c.args.self.now.read.sender (omega (arith, (lawful_in l.opening).groups_most, l.groups))
     ∙ (λ j. set s.groups own (record { version = c.args.self.now.version; marks = (old j).marks; due = (old j).due; penalties = (old j).penalties; balance = kept j })) in
-    λ j. record { terms = s.terms; closed = s.closed; phase = s.phase; sent = c.flags_after.ensures j; groups = groups j }
+    λ j. record { terms = s.terms; closed = s.closed; phase = s.phase; sent = c.flags_after-next.ensures j; groups = groups j }

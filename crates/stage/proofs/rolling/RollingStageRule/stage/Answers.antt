@@ -11,7 +11,9 @@ returns c =
     let n = c.days-last.result in
     let w = c.args.self.now.window in
     let new = c.new.ensures in
-    let days = YieldsList-from_inclusive (n - w + 1) (n - (n - w)) (omega arith) new.exhausted (omega arith) in
     count_from_yields_List _ _ c.count.ensures.ran
-    (YieldsList-from_filter _ (on_day xs) (YieldsList-at c.filter.ensures.source days) c.filter.ensures.closure (λ x r q k. search (rules, tests)))
+    (YieldsList-from_filter _ (on_day xs)
+    (YieldsList-at c.filter.ensures.source (YieldsList-from_inclusive (n - w + 1) (n - (n - w)) (omega arith) new.exhausted (omega arith)))
+    c.filter.ensures.closure
+    (λ x r q k. search (rules, tests)))
     ∙ sym (rolling_counts w xs n c.days-last.ensures.count)
