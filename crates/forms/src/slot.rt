@@ -4,9 +4,13 @@ ghost use Rattle.forms.specs.Slots.{slot_of, kind_of, counter_of};
 
 /// The kinds by which heads name what a series is about.
 pub const OUT: u8 = 1;
+
 pub const IN: u8 = 2;
+
 pub const CONS: u8 = 3;
+
 pub const PROD: u8 = 4;
+
 pub const PUMP: u8 = 5;
 
 /// A group's series: trades out to another group, trades in from one, or a forecast.

@@ -1,14 +1,13 @@
 -- What follows once the heads of a message are lawful and none stands twice.
-use Rattle.std.proofs.Common.{◌≡◌, ℕ, ◌+◌, ◌<◌, ◌≤◌, Bool, true, false, not, ◌&&◌, eqb, leb, List, is_some, Some, None, Ok, Option, sym, refl, ap, subst, inl, inr, arith}
-use Rattle.std.proofs.lemmas.Bool.{and_parts, and_from, or_cases, not-true, not-false, eqb-true, eqb-false, eq-eqb, leb-true, cases_eq}
+use Rattle.std.proofs.Common.{◌≡◌, ℕ, ◌+◌, ◌<◌, ◌≤◌, true, false, eqb, List, is_some, Some, None, Ok, Option, refl, ap, arith}
+use Rattle.std.proofs.lemmas.Bool.{and_from, eq-eqb}
 use Rattle.std.proofs.lemmas.Bool.Decides.{nat_tests}
-use Rattle.forms.specs.Checks.{refuse_if, each_of}
+use Rattle.forms.specs.Checks.{each_of}
 use Rattle.forms.specs.Slots.{kind_of, counter_of}
-use Rattle.forms.specs.declared.fault.Fault.{Fault}
 use Rattle.forms.specs.declared.fault.Fault.TheVariants.{UnlawfulHead, RepeatedHead}
 use Rattle.forms.proofs.Firsts.{each_passed, and_then_left, and_then_right, unrefused, allowed}
 use Rattle.message.specs.Form.{series_count, kind_at, counter_at, value_at}
-use Rattle.message.specs.Told.{is_trade, is_forecast, slot_under, slot_at}
+use Rattle.message.specs.Told.{slot_under, slot_at}
 use Rattle.message.specs.Places.{first_of, head_is, place_under, place_of, sent_in, stated}
 use Rattle.message.specs.Heads.{names_other, lawful_head, Sendable, head_check, repeats, once_check, heads_check}
 use Rattle.message.proofs.Search.{first_found}

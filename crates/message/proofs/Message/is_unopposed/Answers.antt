@@ -1,7 +1,7 @@
-use Rattle.std.proofs.Common.{◌≡◌, ◌+◌, ◌<◌, ◌∷◌, ◌++◌, [], length, is_ok, ap, ◌∙◌, inl, inr, arith, rules, length-append}
+use Rattle.std.proofs.Common.{◌≡◌, ◌+◌, ◌∷◌, ◌++◌, [], length, is_ok, ap, ◌∙◌, inl, inr, arith, rules, length-append}
 use Rattle.forms.specs.Checks.{each_of}
 use Rattle.message.specs.Values.{opposed_check}
-use Rattle.message.proofs.Passes.{ok_none, ok_more, opposed_ok, Left, left_first, left_next, left_all}
+use Rattle.message.proofs.Passes.{ok_none, ok_more, opposed_ok, left_first, left_next, left_all}
 use Rattle.message.proofs.Message.is_unopposed.Goals as goal
 
 pub loop-out-init : goal.loop-out-init
@@ -37,9 +37,9 @@ pub returns : goal.returns
 returns c =
     let q = c.args.self.now.quarters in
     let all : length c.loop-out.yielded ≡ q =
-      elim c.in-None.ensures.steps [
-        | inl x ↦ omega (arith, x.1.0, c.loop-out.invariant.out.count)
-        | inr x ↦ omega (arith, x.1.0, c.loop-out.invariant.into.count)
-      ]
+    elim c.in-None.ensures.steps [
+      | inl x ↦ omega (arith, x.1.0, c.loop-out.invariant.out.count)
+      | inr x ↦ omega (arith, x.1.0, c.loop-out.invariant.into.count)
+    ]
     in
     c.loop-out.invariant.held ∙ ap (λ n. is_ok (each_of (opposed_check q c.args.self.now.bytes.now c.args.i) n)) all

@@ -1,4 +1,4 @@
-use Rattle.std.proofs.Common.{ap, arith, rules}
+use Rattle.std.proofs.Common.{arith}
 use Rattle.message.proofs.Spans.{value_of_chunk, length_values}
 use Rattle.message.proofs.Message.words.Goals as goal
 
