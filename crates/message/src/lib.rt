@@ -4,8 +4,8 @@
 //! from 1.
 #![tactic(auto)]
 
-ghost use Rattle.std.specs.Prelude.{◌≡◌, ◌+◌, ◌*◌, ◌<◌, ◌≤◌, length};
-ghost use Rattle.message.specs.Form.{Formed, series_count, said, head_of, value_at, values_at, values_start};
+ghost use Rattle.std.specs.Prelude.{◌≡◌, ◌+◌, ◌*◌, ◌<◌, ◌≤◌, length, Ok};
+ghost use Rattle.message.specs.Form.{Formed, series_count, said, header_of, head_of, value_at, values_at, values_start};
 
 pub mod find;
 pub mod heads;
@@ -41,6 +41,7 @@ pub struct Message<'a> {
     bytes: &'a [u8],
     quarters: u8,
     ghost formed: { Formed quarters bytes.now },
+    ghost passed: { header_of quarters bytes.now ≡ Ok (said bytes.now) },
 }
 
 /// The place of a series or a quarter hour as a fault names it, from 1.
