@@ -1,8 +1,8 @@
 //! A closing form whose sizes are right, and what it says. Groups, series and quarter hours count
 //! from 0 here; in a fault they count from 1.
-ghost use Rattle.std.specs.Prelude.{◌≡◌, ◌+◌, ◌<◌};
+ghost use Rattle.std.specs.Prelude.{◌≡◌, ◌+◌, ◌<◌, Ok};
 ghost use Rattle.forms.specs.Checks.{each_of};
-ghost use Rattle.forms.specs.Closings.{ClosingFormed, series_count, closing_value, feed_in, long_price, short_price, value_bound, value_check, series_check, closing_check};
+ghost use Rattle.forms.specs.Closings.{ClosingFormed, series_count, closing_sizes, closing_value, feed_in, long_price, short_price, value_bound, value_check, series_check, closing_check};
 
 use crate::bounds::{POWER_BOUND, PRICE_BOUND};
 use crate::bytes::signed32_at;
@@ -17,6 +17,7 @@ pub struct ClosingForm<'a> {
     pub(crate) groups: u8,
     pub(crate) quarters: u8,
     ghost formed: { ClosingFormed groups quarters bytes.now },
+    ghost passed: { closing_sizes groups quarters bytes.now ≡ Ok tt },
 }
 
 impl<'a> ClosingForm<'a> {

@@ -1,8 +1,8 @@
 //! An opening form whose sizes are right, and what it says. Groups and tariff rows count from 0
 //! here; in a fault they count from 1.
-ghost use Rattle.std.specs.Prelude.{◌≡◌, ◌<◌};
+ghost use Rattle.std.specs.Prelude.{◌≡◌, ◌<◌, Ok};
 ghost use Rattle.forms.specs.Figures.{figures_of, rates_of};
-ghost use Rattle.forms.specs.Openings.{OpeningFormed, groups_told, rows_told, group_at, row_at};
+ghost use Rattle.forms.specs.Openings.{OpeningFormed, sizes_check, groups_told, rows_told, group_at, row_at};
 
 use crate::bytes::be32_at;
 use crate::group::{Group, Limits, TariffRow};
@@ -13,6 +13,7 @@ use crate::opening::{GROUP_BYTES, OPENING_HEADER, ROW_BYTES};
 pub struct OpeningForm<'a> {
     pub(crate) bytes: &'a [u8],
     ghost formed: { OpeningFormed bytes.now },
+    ghost passed: { sizes_check bytes.now ≡ Ok tt },
 }
 
 impl<'a> OpeningForm<'a> {

@@ -11,6 +11,7 @@ pub struct UpTo<T, const N: usize> {
     ghost room: { count ≤ length places },
 }
 
+// `Clone` is not derived beside a ghost field of a generic struct.
 impl<T: Copy, const N: usize> Clone for UpTo<T, N> {
     ghost is_clone = { λ x y. y ≡ x };
 

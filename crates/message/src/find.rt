@@ -14,6 +14,7 @@ impl<'a> Message<'a> {
         requires { below ≤ series_count self.now.bytes.now }
         ensures { result ≡ first_of (head_is self.now.bytes.now kind counter) below }
     {
+        // No `(0..below).find(..)`: that it answers the first such place did not come out proved.
         for i in 0..below {
             let head = self.head(i);
             if head.kind == kind && u16::from(head.counter) == counter {

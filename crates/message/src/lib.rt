@@ -4,9 +4,14 @@
 //! from 1.
 #![tactic(auto)]
 
+<<<<<<< HEAD
 ghost use Rattle.std.specs.Prelude.{◌≡◌, ℕ, ◌+◌, ◌*◌, ◌<◌, ◌≤◌, length, slice_index_or, []};
 ghost use Rattle.forms.specs.Bytes.{be32};
 ghost use Rattle.message.specs.Form.{Formed, series_count, said, head_of, value_at, values_at, values_start};
+=======
+ghost use Rattle.std.specs.Prelude.{◌≡◌, ◌+◌, ◌*◌, ◌<◌, ◌≤◌, length, Ok};
+ghost use Rattle.message.specs.Form.{Formed, series_count, said, header_of, head_of, value_at, values_at, values_start};
+>>>>>>> 3688cfd3212220627c8324a4bbd541994c44b0dc
 
 pub mod find;
 pub mod heads;
@@ -42,6 +47,7 @@ pub struct Message<'a> {
     bytes: &'a [u8],
     quarters: u8,
     ghost formed: { Formed quarters bytes.now },
+    ghost passed: { header_of quarters bytes.now ≡ Ok (said bytes.now) },
 }
 
 /// The place of a series or a quarter hour as a fault names it, from 1.
