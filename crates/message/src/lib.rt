@@ -4,14 +4,9 @@
 //! from 1.
 #![tactic(auto)]
 
-<<<<<<< HEAD
-ghost use Rattle.std.specs.Prelude.{◌≡◌, ℕ, ◌+◌, ◌*◌, ◌<◌, ◌≤◌, length, slice_index_or, []};
+ghost use Rattle.std.specs.Prelude.{◌≡◌, ℕ, ◌+◌, ◌*◌, ◌<◌, ◌≤◌, length, slice_index_or, Ok, []};
 ghost use Rattle.forms.specs.Bytes.{be32};
-ghost use Rattle.message.specs.Form.{Formed, series_count, said, head_of, value_at, values_at, values_start};
-=======
-ghost use Rattle.std.specs.Prelude.{◌≡◌, ◌+◌, ◌*◌, ◌<◌, ◌≤◌, length, Ok};
 ghost use Rattle.message.specs.Form.{Formed, series_count, said, header_of, head_of, value_at, values_at, values_start};
->>>>>>> 3688cfd3212220627c8324a4bbd541994c44b0dc
 
 pub mod find;
 pub mod heads;
