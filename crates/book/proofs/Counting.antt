@@ -3,6 +3,7 @@ use Rattle.std.proofs.Common.{◌≡◌, ℕ, zero, suc, ◌+◌, Bool, true, fa
 use Rattle.std.specs.List.{range_with_len, list_any}
 use Rattle.std.proofs.lemmas.List.Folds.{list_any-append}
 use Rattle.std.specs.Option.{option_map, option_or}
+use Rattle.message.proofs.Search.{range_more}
 use Rattle.message.specs.Places.{first_of, or_at}
 use Rattle.book.specs.Messages.{count_where}
 
@@ -40,10 +41,6 @@ or_there : (o : Option ℕ) (b : Bool) (n : ℕ) → (is_some o || (b || false))
 or_there (Some i) b n = refl
 or_there None true n = refl
 or_there None false n = refl
-
-range_more : (a n : ℕ) → range_with_len a (suc n) ≡ range_with_len a n ++ (a + n) ∷ []
-range_more a zero = ap (λ k. k ∷ []) (sym (add-zero a))
-range_more a (suc n) = ap (λ l. a ∷ l) (range_more (a + 1) n ∙ ap (λ k. range_with_len (a + 1) n ++ k ∷ []) (omega arith))
 
 pub any_first : (p : ℕ → Bool) (n : ℕ) → list_any p (range_with_len 0 n) ≡ is_some (first_of p n)
 unfolding first_of

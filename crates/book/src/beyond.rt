@@ -32,6 +32,7 @@ impl OpenDay<'_, '_> {
         let figures = self.ledger.figures(own);
         let day = self.on_sheet();
         let trades = day.stated_trades(own);
+        // One pass finds both; a chain for each would reckon every position twice.
         let mut beyond: u16 = 0;
         let mut first = None;
         for t in 0..u16::from(self.ledger.quarters()) {

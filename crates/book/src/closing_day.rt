@@ -40,6 +40,7 @@ impl ClosingDay<'_, '_, '_> {
         ensures value { result ≡ balance_today (state_of self.now.day.ledger.now) self.now.day.sheet.now self.now.form.bytes.now a }
         ensures bound { unsigned_abs result < 2 ^ 52 }
     {
+        // No `map` and `sum`: that a signed sum stays within its bounds did not come out proved.
         let mut cost: i64 = 0;
         for t in 0..self.day.ledger.quarters() as usize {
             cost += self.quarter_cost(a, t);

@@ -50,6 +50,7 @@ impl OpenDay<'_, '_> {
         let day = self.on_sheet();
         let quarters = ledger.quarters() as usize;
         let mut accounts = ledger.accounts;
+        // Figures, account and excess are all asked for by the group's number.
         for a in 0..ledger.groups() {
             let energy = day.day_excess(&ledger.figures(a), a, quarters);
             accounts[a] = ledger.account(a).charged(rule, &ledger.opening, energy);

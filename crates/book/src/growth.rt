@@ -89,6 +89,7 @@ impl Sending<'_, '_, '_> {
         let before = day.stated_trades(self.own);
         let trades = self.trades();
         let consumption = self.consumption();
+        // A check of one quarter hour by itself would ask again what each of the three lists is.
         for t in 0..self.day.ledger.quarters() as usize {
             let next = check_less(&trades, &consumption, t);
             let last = day.check_value(&before, self.own, t);

@@ -20,6 +20,7 @@ pub struct Ledger {
     /// How many days are closed.
     pub(crate) closed: u16,
     pub(crate) phase: Phase,
+    // No heap is used, so both arrays have room for 16 groups.
     /// Whether a slot was sent today, by its place in the sheet.
     pub(crate) sent: [bool; FLAGS],
     pub(crate) accounts: [GroupAccount; ACCOUNTS],

@@ -56,6 +56,7 @@ pub enum Fault {
 #[derive(Clone, Copy)]
 pub struct Notice {
     pub level: Level,
+    /// What the documents call the fault by; code knows it as a `Fault`.
     pub number: u8,
     pub series: u16,
     pub quarter: u16,

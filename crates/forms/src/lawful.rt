@@ -51,6 +51,7 @@ impl<'a> OpeningForm<'a> {
         requires { a < groups_told self.now.bytes.now }
         ensures { result ≡ group_check self.now.bytes.now a }
     {
+        // the byte itself, since all but 0 and 1 are unlawful
         let flag = self.bytes[OPENING_HEADER + GROUP_BYTES * a];
         let group = self.group(a);
         if flag <= 1 && group.has_powers_within() && group.has_plants_metered() {

@@ -2,6 +2,7 @@
 use crate::arguments::quarter_hour;
 use crate::table::table;
 use forms::bounds::MOST_GROUPS;
+use serve::refuse::refuse;
 use session::session::Session;
 use std::io::{BufWriter, Write};
 use std::{env, io};
@@ -34,7 +35,7 @@ docs/INQUIRY.md has more, docs/FORMS.md the bytes of each form.
 /// The program on the standard streams.
 pub fn inquiry(rt: &HostRuntime) -> io::Result<()> {
     let Ok(arguments) = env::args(rt) else {
-        return refuse(rt, "(no text)");
+        return refuse_argument(rt, "(no text)");
     };
     let mut quarters = Vec::new(rt.alloc());
     for (place, argument) in arguments.enumerate().skip(1) {
@@ -42,7 +43,7 @@ pub fn inquiry(rt: &HostRuntime) -> io::Result<()> {
             return rt.print(HELP);
         }
         let Some(quarter) = quarter_hour(argument.as_str()) else {
-            return refuse(rt, argument.as_str());
+            return refuse_argument(rt, argument.as_str());
         };
         quarters.push(quarter)?;
     }
@@ -59,9 +60,11 @@ fn print_table(rt: &HostRuntime, session: &Session, quarters: &[u16]) -> io::Res
     output.flush()
 }
 
-fn refuse(rt: &HostRuntime, argument: &str) -> io::Result<()> {
-    eprintln!(rt;
-        "inquiry: no quarter hour: {argument}. Give numbers from 0 to 65535, or try: inquiry --help"
-    )?;
-    Err(io::Error::from(io::ErrorKind::InvalidInput))
+fn refuse_argument(rt: &HostRuntime, argument: &str) -> io::Result<()> {
+    refuse(
+        rt,
+        format_args!(
+            "inquiry: no quarter hour: {argument}. Give numbers from 0 to 65535, or try: inquiry --help"
+        ),
+    )
 }

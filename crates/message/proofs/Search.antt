@@ -1,15 +1,37 @@
--- A search for the first that meets a test: a loop's start, step and exit, and what it finds.
-use Rattle.std.proofs.Common.{◌≡◌, ℕ, zero, suc, ◌+◌, ◌<◌, Bool, true, false, Some, None, Option, refl, subst, inl, inr, add-one, arith}
+-- A search for the first that meets a test, by the library and by hand, and what it finds.
+use Rattle.std.proofs.Common.{◌≡◌, ℕ, zero, suc, ◌+◌, ◌<◌, Bool, true, false, cond, List, [], ◌∷◌, ◌++◌, Some, None, Option, refl, sym, subst, ap, ◌∙◌, inl, inr, add-one, add-zero, arith}
+use Rattle.std.specs.List.{range_with_len, find}
+use Rattle.std.specs.Option.{option_map, option_or}
+use Rattle.std.proofs.lemmas.List.Folds.{find-append}
 use Rattle.std.proofs.lemmas.Bool.{cases_order}
 use Rattle.message.specs.Places.{first_of, or_at, IsFirst}
+
+-- the numbers 0, 1, .., n
+pub range_more : (a n : ℕ) → range_with_len a (suc n) ≡ range_with_len a n ++ (a + n) ∷ []
+range_more a zero = ap (λ k. k ∷ []) (sym (add-zero a))
+range_more a (suc n) = ap (λ l. a ∷ l) (range_more (a + 1) n ∙ ap (λ k. range_with_len (a + 1) n ++ k ∷ []) (omega arith))
+
+or_found : (o : Option ℕ) (b : Bool) (n : ℕ) → option_or o (cond b (Some n) None) ≡ or_at o b n
+or_found (Some i) b n = refl
+or_found None true n = refl
+or_found None false n = refl
+
+-- the library's search over them
+pub find_first : (test : ℕ → Bool) (n : ℕ) → find test (range_with_len 0 n) ≡ first_of test n
+unfolding first_of
+find_first test zero = refl
+find_first test (suc n) =
+    let last : 0 + n ≡ n = omega arith in
+    ap (find test) (range_more 0 n ∙ ap (λ k. range_with_len 0 n ++ k ∷ []) last) ∙ find-append test (range_with_len 0 n) (n ∷ [])
+    ∙ ap (λ o. option_or o (cond (test n) (Some n) None)) (find_first test n) ∙ or_found (first_of test n) (test n) n
+
+pub found_itself : (o : Option ℕ) → option_map (λ (x : ℕ). x) o ≡ o
+found_itself None = refl
+found_itself (Some x) = refl
 
 pub first_none : (test : ℕ → Bool) → first_of test 0 ≡ None
 unfolding first_of
 first_none test = refl
-
-pub first_more : (test : ℕ → Bool) (i : ℕ) → first_of test i ≡ None → test i ≡ false → first_of test (i + 1) ≡ None
-unfolding first_of
-first_more test i h e = rw (add-one i) (rw (h, e) refl)
 
 pub first_found : (test : ℕ → Bool) (n i : ℕ) → i < n → first_of test i ≡ None → test i ≡ true → first_of test n ≡ Some i
 unfolding first_of

@@ -14,14 +14,10 @@ impl<'a> Message<'a> {
         requires { below ≤ series_count self.now.bytes.now }
         ensures { result ≡ first_of (head_is self.now.bytes.now kind counter) below }
     {
-        // No `(0..below).find(..)`: that it answers the first such place did not come out proved.
-        for i in 0..below {
+        (0..below).find(|&i| {
             let head = self.head(i);
-            if head.kind == kind && u16::from(head.counter) == counter {
-                return Some(i);
-            }
-        }
-        None
+            head.kind == kind && u16::from(head.counter) == counter
+        })
     }
 
     /// The first series whose head has this kind and counter.

@@ -29,7 +29,7 @@ pub struct Header {
     pub day: u16,
 }
 
-/// The head of a series, as its two bytes have it.
+/// The head of a series, as its two bytes have it: its kind may be none that there is.
 #[derive(Clone, Copy)]
 pub struct Head {
     pub kind: u8,

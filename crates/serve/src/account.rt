@@ -1,5 +1,6 @@
 //! Arguments for the program `account`: `--help`, and an error for any other. The program does not take
 //! them yet: it ignores what it is given.
+use crate::refuse::refuse;
 use crate::run;
 use std::{env, io};
 
@@ -30,21 +31,17 @@ It prints one line for each frame, or for a close one line for each group:
 docs/FORMS.md has the bytes of each form, docs/REFUSALS.md the numbers.
 ";
 
+const NO_ARGUMENTS: &str =
+    "account: it takes no arguments; the session comes on standard input. Try: account --help";
+
 /// The program on the standard streams. It takes no arguments but `--help`.
 pub fn account(rt: &HostRuntime) -> io::Result<()> {
     let Ok(mut arguments) = env::args(rt) else {
-        return refuse(rt);
+        return refuse(rt, NO_ARGUMENTS);
     };
     match arguments.nth(1) {
         None => run(rt),
         Some(first) if first.as_str() == "--help" => rt.print(HELP),
-        Some(_) => refuse(rt),
+        Some(_) => refuse(rt, NO_ARGUMENTS),
     }
-}
-
-fn refuse(rt: &HostRuntime) -> io::Result<()> {
-    eprintln!(rt;
-        "account: it takes no arguments; the session comes on standard input. Try: account --help"
-    )?;
-    Err(io::Error::from(io::ErrorKind::InvalidInput))
 }

@@ -8,6 +8,7 @@ use std::io;
 
 pub mod account;
 mod input_buffer;
+pub mod refuse;
 mod service;
 
 /// A whole session on the standard streams, for the eight groups that the program `account` serves.

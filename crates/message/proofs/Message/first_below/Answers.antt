@@ -1,13 +1,13 @@
-use Rattle.std.proofs.Common.{sym, arith, rules}
-use Rattle.std.proofs.lemmas.Bool.Decides.{nat_tests}
-use Rattle.message.proofs.Search.{first_none, first_more, first_found}
+use Rattle.std.proofs.Common.{sym, ◌∙◌, arith, rules, tests}
+use Rattle.std.proofs.lemmas.Iterator.{YieldsList-from_range}
+use Rattle.std.proofs.lemmas.Iterator.Search.{find_from_yields_List}
+use Rattle.message.specs.Places.{head_is}
+use Rattle.message.proofs.Search.{find_first, found_itself}
 use Rattle.message.proofs.Message.first_below.Goals as goal
 
-pub loop-i-init : goal.loop-i-init
-loop-i-init c = first_none _
-
-pub returns-then-from-counter : goal.returns-then-from-counter
-returns-then-from-counter c = sym (first_found _ _ c.loop-i.i (omega arith) c.loop-i.invariant (search rules))
-
-pub loop-i-preserved : goal.loop-i-preserved
-loop-i-preserved c = first_more _ _ c.loop-i.invariant (grind (arith, nat_tests))
+pub returns : goal.returns
+returns c =
+    let test = head_is c.args.self.now.bytes.now c.args.kind c.args.counter in
+    sym (found_itself c.find.result)
+    ∙ find_from_yields_List test _ _ c.find.result c.find.ensures.ran (YieldsList-from_range 0 c.args.below c.args.below (search rules) (omega arith)) (λ x b q k. search (rules, tests))
+    ∙ find_first test c.args.below

@@ -1,5 +1,5 @@
 use Rattle.std.proofs.Common.{◌≡◌, ℕ, ◌+◌, ◌-◌, ◌<◌, ◌≤◌, List, [], length, get_or, take, drop, sym, ap, ◌∙◌, inl, inr, arith, rules}
-use Rattle.std.proofs.lemmas.List.{get_or-take, get_or_append_left, get_or-append_right, get_or-drop, length-append, length-take-le, length-drop}
+use Rattle.std.proofs.lemmas.List.{get_or-take, get_or_past, get_or_append_left, get_or-append_right, get_or-drop, length-append, length-take-le, length-drop}
 use Rattle.std.proofs.lemmas.Bool.{cases_lt}
 use Rattle.forms.specs.Bytes.{be32}
 use Rattle.message.specs.Form.{value_at}
@@ -7,6 +7,16 @@ use Rattle.message.proofs.Stated.{value_found, value_missing}
 use Rattle.book.specs.States.{state_of, today}
 use Rattle.book.proofs.Days.{quarters_fit}
 use Rattle.book.proofs.sending.Sending.add_series.Goals as goal
+
+pub add_words-requires-clause-room : goal.add_words-requires-clause-room
+add_words-requires-clause-room c = λ t.
+    let xs = c.args.sums.now in
+    let n = length c.words-words.result.now in
+    let few : n ≤ length xs = omega (arith, c.requires.0, c.words-words.ensures.count, c.args.self.now.read.quarters, quarters_fit (today (state_of c.args.self.now.day.ledger.now))) in
+    elim (cases_lt t n) [
+      | inl l ↦ omega (arith, get_or-take n xs t 0 l, c.requires.1 t)
+      | inr l ↦ omega (arith, get_or_past (take n xs) t 0 (omega (arith, length-take-le n xs few)))
+    ]
 
 pub slice_bounds-add_words-end : goal.slice_bounds-add_words-end
 slice_bounds-add_words-end c = omega (arith, c.requires.0, c.words-words.ensures.count, c.args.self.now.read.quarters, quarters_fit (today (state_of c.args.self.now.day.ledger.now)))
