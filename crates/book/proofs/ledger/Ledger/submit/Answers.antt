@@ -1,33 +1,15 @@
-use Rattle.std.proofs.Common.{length, subst, ◌≡◌, ℕ, ◌+◌, ◌<◌, Err, sym, ap, ◌∙◌, arith}
-use Rattle.std.proofs.lemmas.Result.{err_from_is_err_and}
+use Rattle.std.proofs.Common.{length, ◌≡◌, ℕ, ◌+◌, ◌<◌, sym, ap, ◌∙◌, arith}
 use Rattle.std.specs.Option.{option_map}
 use Rattle.settlement.specs.Sheets.{sheet_size}
 use Rattle.message.specs.Places.{first_of}
 use Rattle.forms.proofs.OpeningLaws.{lawful_in}
 use Rattle.book.specs.declared.ledger.Ledger.{Ledger}
-use Rattle.book.specs.Messages.{Read, beyond_now, beyond_at, beyond_count, count_where, state_with, sheet_after}
+use Rattle.book.specs.Messages.{beyond_now, beyond_at, beyond_count, count_where, state_with, sheet_after}
 use Rattle.book.specs.States.{State, state_of, size, day_quarters}
 use Rattle.book.proofs.Accepted.{beyond_same, count_same, first_same}
 use Rattle.book.proofs.Days.{flags_enough}
-use Rattle.book.proofs.Submitting.{submit_refused, submit_accepted}
+use Rattle.book.proofs.Submitting.{submit_accepted}
 use Rattle.book.proofs.ledger.Ledger.submit.Goals as goal
-
-pub returns-in_err-sending : goal.returns-in_err-sending
-returns-in_err-sending c =
-    let p = err_from_is_err_and c.from_residual.result c.from_residual.ensures.1 in
-    submit_refused (state_of c.args.self.now) c.args.sheet.now c.args.form.now c.from_residual.result _ (p.1 ∙ ap Err p.2) c.in_err-sending.ensures
-
-pub lay-requires : goal.lay-requires
-lay-requires c =
-    let x = c.in_ok-sending.sending in
-    let found = c.in_ok-sending.ensures.1 in
-    record {
-      read = subst (λ (l : Ledger). Read (state_of l) x.own x.message.quarters x.message.bytes.now) found.0 x.read;
-      sheet = ap length (sym found.1) ∙ x.day.room ∙ ap (λ (l : Ledger). sheet_size (size (state_of l))) found.0;
-    }
-
-pub beyond-requires : goal.beyond-requires
-beyond-requires c = omega (arith, c.in_ok-sending.sending.read.sender, ap size c.ledger_after-after.ensures)
 
 pub returns : goal.returns
 returns c =

@@ -12,13 +12,6 @@ use Rattle.book.proofs.Counting.{count_none, count_yes, count_no, first_yes, fir
 use Rattle.book.proofs.open_day.OpenDay.beyond.Goals as goal
 use Rattle.book.proofs.open_day.OpenDay.beyond.Goals.{then-is_beyond, else-is_beyond}
 
-pub stated_trades-trades-requires : goal.stated_trades-trades-requires
-stated_trades-trades-requires c = omega (arith, c.on_sheet-day.ensures.groups, c.requires)
-
-pub check_value-check-requires : goal.check_value-check-requires
-check_value-check-requires c =
-    (omega (arith, c.on_sheet-day.ensures.groups, c.requires), omega (arith, c.quarters.ensures.few, c.from-t-end.ensures, c.loop-t-test.true))
-
 pub loop-t-init : goal.loop-t-init
 loop-t-init c = (omega arith, sym (count_none _), sym (ap (option_map (λ t. t + 1)) (first_none _)))
 

@@ -1,8 +1,7 @@
-use Rattle.std.proofs.Common.{◌≡◌, ◌<◌, pos, ◌-ℤ◌, refl, sym, ap, ◌∙◌, arith, w64, rules}
+use Rattle.std.proofs.Common.{◌<◌, pos, ◌-ℤ◌, refl, sym, ap, ◌∙◌, arith, w64, rules}
 use Rattle.std.proofs.lemmas.Int.{to_z-of_z}
 use Rattle.forms.specs.Slots.{cons}
 use Rattle.forms.proofs.Firsts.{each_none, each_more, each_exit}
-use Rattle.book.specs.Messages.{each_growth}
 use Rattle.settlement.specs.Sheets.{words_per_slot, on_sheet}
 use Rattle.book.specs.States.{State, state_of, day_quarters}
 use Rattle.book.proofs.Growing.{last_known, next_known, grows_known}
@@ -54,9 +53,3 @@ loop-t-preserved c =
     let grows = grows_known s sheet form own t _ _ _ _ c.moves_out.ensures c.figures-figures.ensures next last in
     let no-growth = sym grows ∙ c.if-moves_out.false in
     each_more _ _ c.loop-t.invariant (rw no-growth)
-
-pub returns : goal.returns
-returns c =
-    let s = state_of c.args.self.now.day.ledger.now in
-    let all : c.loop-t.t ≡ day_quarters s = omega (arith, c.quarters-t-end.ensures.value, c.loop-t-test.false, c.loop-t.auto.t-end) in
-    sym (ap (each_growth s c.args.self.now.day.sheet.now c.args.self.now.own c.args.self.now.message.bytes.now) (sym all) ∙ c.loop-t.invariant)

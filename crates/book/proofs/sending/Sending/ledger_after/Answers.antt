@@ -7,9 +7,6 @@ use Rattle.book.specs.Kept.{days_in, penalties_in, balance_in}
 use Rattle.book.proofs.Accounts.{bounded_set, own_set}
 use Rattle.book.proofs.sending.Sending.ledger_after.Goals as goal
 
-pub offset_bounds-accounts-self : goal.offset_bounds-accounts-self
-offset_bounds-accounts-self c = let l : c.args.self.now.own < 16 = omega (arith, c.args.self.now.read.sender, (lawful_in c.args.self.now.day.ledger.now.opening).groups_most) in search rules
-
 pub bounds-accounts-self : goal.bounds-accounts-self
 bounds-accounts-self c = omega (arith, c.args.self.now.read.sender, (lawful_in c.args.self.now.day.ledger.now.opening).groups_most)
 
