@@ -45,6 +45,7 @@ impl Sending<'_, '_, '_> {
         ensures { result ≡ flags_after (size (state_of self.now.day.ledger.now)) self.now.own self.now.message.bytes.now self.now.day.ledger.now.sent }
     {
         let ledger = self.day.ledger;
+        // By its number: the place of a slot's flag is reckoned.
         let mut sent = ledger.sent;
         for number in 0..slots_per_group(ledger.groups()) {
             let slot = slot_at(ledger.groups(), number);

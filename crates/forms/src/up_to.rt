@@ -31,6 +31,7 @@ impl<T: Copy, const N: usize> UpTo<T, N> {
         ensures items { (i : ℕ) → i < count → F.post item i (get_or (take result.count result.places) i blank) }
     {
         let mut places = [blank; N];
+        // By its number: `item` is asked for the first `count` places alone.
         for i in 0..count {
             places[i as usize] = item(i);
         }

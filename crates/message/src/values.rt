@@ -11,7 +11,7 @@ use forms::checks::in_order;
 use forms::fault::Fault;
 use forms::slot::{CONS, IN, OUT, PUMP};
 
-/// Kinds 3 to 5 are forecasts.
+/// Kinds 3 to 5 are forecasts. A head's number is asked here: it may be no kind at all.
 fn is_forecast(kind: u8) -> bool
     ensures { result ≡ is_forecast kind }
 {

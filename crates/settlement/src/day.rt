@@ -14,6 +14,7 @@ use forms::slot::Slot;
 /// their difference is promised and asked for.
 #[derive(Clone, Copy)]
 pub struct DayTrades {
+    // Two arrays, since whole slots are added to one of them at a time.
     pub taken: [u64; WORDS_PER_SLOT],
     pub given: [u64; WORDS_PER_SLOT],
     ghost taken_long: { length taken ≡ words_per_slot },
