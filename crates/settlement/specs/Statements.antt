@@ -2,5 +2,5 @@
 use Rattle.settlement.specs.declared.sheet.WholeSheet.{WholeSheet}
 use Rattle.settlement.specs.Sheets.{Statements, on_sheet}
 
-abbrev pub statements : WholeSheet → Statements
-statements s = on_sheet s.groups s.sent.now s.words.now
+abbrev pub sent_on : WholeSheet → Statements
+sent_on s = on_sheet s.groups s.sent.now s.words.now

@@ -2,7 +2,7 @@
 ghost use Rattle.std.specs.Prelude.{◌≡◌, ◌^◌, ◌<◌, ◌≤◌, map, length, ◌+ℤ◌, ◌*ℤ◌, unsigned_abs};
 ghost use Rattle.forms.specs.Figures.{rates_of};
 ghost use Rattle.settlement.specs.Sheets.{words_per_slot};
-ghost use Rattle.settlement.specs.Statements.{statements};
+ghost use Rattle.settlement.specs.Statements.{sent_on};
 ghost use Rattle.settlement.specs.Positions.{net_purchases};
 ghost use Rattle.settlement.specs.Amounts.{row_for, penalty as penalty_for, to_cents, imbalance_cost};
 
@@ -66,7 +66,7 @@ impl WholeSheet<'_, '_> {
     pub fn quarter_cost(&self, a: usize, t: usize, feed: i32, long: i32, short: i32) -> i64
         requires within { (a < self.now.groups) × (t < words_per_slot) }
         requires lawful { (unsigned_abs feed ≤ 10000000) × ((unsigned_abs long ≤ 1000000) × (unsigned_abs short ≤ 1000000)) }
-        ensures value { result ≡ imbalance_cost (net_purchases (statements self.now) self.now.groups t a +ℤ feed) long short }
+        ensures value { result ≡ imbalance_cost (net_purchases (sent_on self.now) self.now.groups t a +ℤ feed) long short }
         ensures bound { unsigned_abs result ≤ 68730000000000000 }
     {
         let imbalance = self.sums(a, t).confirmed + i64::from(feed);

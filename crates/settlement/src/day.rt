@@ -4,7 +4,7 @@ ghost use Rattle.forms.specs.Slots.{slot_of, cons};
 ghost use Rattle.settlement.specs.Days.{day_net, HasRoom, Grows, Adds, with_others};
 ghost use Rattle.settlement.specs.Positions.{confirmed, net_purchases, stated_with};
 ghost use Rattle.settlement.specs.Sheets.{words_per_slot, Within};
-ghost use Rattle.settlement.specs.Statements.{statements};
+ghost use Rattle.settlement.specs.Statements.{sent_on};
 
 use crate::sheet::{WORDS_PER_SLOT, WholeSheet, slot_place};
 use crate::words::add_words;
@@ -62,7 +62,7 @@ impl WholeSheet<'_, '_> {
     fn add_slot(&self, group: usize, slot: Slot, sums: &mut [u64])
         requires within { (group < self.now.groups) × (Within self.now.groups (slot_of slot)) }
         requires room { HasRoom sums.old }
-        ensures value { Adds words_per_slot (statements self.now group (slot_of slot)) sums.old sums.new }
+        ensures value { Adds words_per_slot (sent_on self.now group (slot_of slot)) sums.old sums.new }
         ensures bound { Grows sums.old sums.new }
     {
         let place = slot_place(self.groups, group, slot);
@@ -75,7 +75,7 @@ impl WholeSheet<'_, '_> {
     /// The trades of group `a` as it has stated them itself.
     pub fn stated_trades(&self, a: usize) -> DayTrades
         requires { a < self.now.groups }
-        ensures { (t : ℕ) → t < words_per_slot → day_net result.taken result.given t ≡ stated_with (statements self.now) t a self.now.groups }
+        ensures { (t : ℕ) → t < words_per_slot → day_net result.taken result.given t ≡ stated_with (sent_on self.now) t a self.now.groups }
     {
         DayTrades::with_others(self.groups, a, |b, taken, given| {
             self.add_slot(a, Slot::InFrom(b as u8), taken);
@@ -87,7 +87,7 @@ impl WholeSheet<'_, '_> {
     fn add_trade(&self, a: usize, b: usize, sums: &mut [u64])
         requires within { (a < self.now.groups) × (b < self.now.groups) }
         requires room { HasRoom sums.old }
-        ensures value { Adds words_per_slot (λ t. confirmed (statements self.now) t a b) sums.old sums.new }
+        ensures value { Adds words_per_slot (λ t. confirmed (sent_on self.now) t a b) sums.old sums.new }
         ensures bound { Grows sums.old sums.new }
     {
         let out = slot_place(self.groups, a, Slot::OutTo(b as u8));
@@ -102,7 +102,7 @@ impl WholeSheet<'_, '_> {
     /// The confirmed trades of group `a`.
     pub fn confirmed_trades(&self, a: usize) -> DayTrades
         requires { a < self.now.groups }
-        ensures { (t : ℕ) → t < words_per_slot → day_net result.taken result.given t ≡ net_purchases (statements self.now) self.now.groups t a }
+        ensures { (t : ℕ) → t < words_per_slot → day_net result.taken result.given t ≡ net_purchases (sent_on self.now) self.now.groups t a }
     {
         DayTrades::with_others(self.groups, a, |b, taken, given| {
             self.add_trade(b, a, taken);
@@ -113,7 +113,7 @@ impl WholeSheet<'_, '_> {
     /// The check value of group `a` in a quarter hour, by its trades of the day: less consumption.
     pub fn check_value(&self, trades: &DayTrades, a: usize, t: usize) -> i64
         requires { (a < self.now.groups) × (t < words_per_slot) }
-        ensures value { result ≡ day_net trades.now.taken trades.now.given t -ℤ pos (statements self.now a cons t) }
+        ensures value { result ≡ day_net trades.now.taken trades.now.given t -ℤ pos (sent_on self.now a cons t) }
         ensures bound { unsigned_abs result ≤ 2 ^ 37 }
     {
         trades.net(t) - i64::from(self.value(a, Slot::Cons, t))

@@ -2,7 +2,7 @@
 ghost use Rattle.std.specs.Prelude.{◌≡◌, ◌<◌};
 ghost use Rattle.forms.specs.Slots.{slot_of};
 ghost use Rattle.settlement.specs.Sheets.{words_per_slot, slot_place, Within, held};
-ghost use Rattle.settlement.specs.Statements.{statements};
+ghost use Rattle.settlement.specs.Statements.{sent_on};
 
 use crate::sheet::{WORDS_PER_SLOT, WholeSheet, slot_place};
 use forms::slot::Slot;
@@ -20,7 +20,7 @@ impl WholeSheet<'_, '_> {
     /// What a group has sent in a slot for the quarter hour `t`; a slot not sent counts as zero.
     pub fn value(&self, group: usize, slot: Slot, t: usize) -> u32
         requires { (group < self.now.groups) × ((Within self.now.groups (slot_of slot)) × (t < words_per_slot)) }
-        ensures { result ≡ statements self.now group (slot_of slot) t }
+        ensures { result ≡ sent_on self.now group (slot_of slot) t }
     {
         let Some(value) = self.held(group, slot, t) else {
             return 0;

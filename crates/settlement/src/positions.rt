@@ -5,7 +5,7 @@ ghost use Rattle.forms.specs.Slots.{cons};
 ghost use Rattle.settlement.specs.declared.phase.Phase.TheVariants.{After};
 ghost use Rattle.settlement.specs.Days.{day_net};
 ghost use Rattle.settlement.specs.Sheets.{words_per_slot};
-ghost use Rattle.settlement.specs.Statements.{statements};
+ghost use Rattle.settlement.specs.Statements.{sent_on};
 ghost use Rattle.settlement.specs.Positions.{net_purchases, open_position, stated_open, confirmed_open, limit_for, excess, as_far_out, day_excess};
 
 use crate::day::DayTrades;
@@ -64,9 +64,9 @@ impl WholeSheet<'_, '_> {
     /// Group `a`'s stated open position, its confirmed open position and its confirmed net purchases.
     pub fn position(&self, figures: &Group, a: usize, t: usize) -> (i64, i64, i64)
         requires { (a < self.now.groups) × (t < words_per_slot) }
-        ensures stated { result.0 ≡ stated_open (statements self.now) (figures_of figures.now) self.now.groups t a }
-        ensures confirmed { result.1 ≡ confirmed_open (statements self.now) (figures_of figures.now) self.now.groups t a }
-        ensures net { result.2 ≡ net_purchases (statements self.now) self.now.groups t a }
+        ensures stated { result.0 ≡ stated_open (sent_on self.now) (figures_of figures.now) self.now.groups t a }
+        ensures confirmed { result.1 ≡ confirmed_open (sent_on self.now) (figures_of figures.now) self.now.groups t a }
+        ensures net { result.2 ≡ net_purchases (sent_on self.now) self.now.groups t a }
         ensures bound { (unsigned_abs result.0 ≤ 2 ^ 37) × ((unsigned_abs result.1 ≤ 2 ^ 37) × (unsigned_abs result.2 ≤ 2 ^ 37)) }
     {
         let TradeSums { stated, confirmed } = self.sums(a, t);
@@ -81,7 +81,7 @@ impl WholeSheet<'_, '_> {
     /// Group `a`'s open position by its own series.
     pub fn stated_open(&self, figures: &Group, a: usize, t: usize) -> i64
         requires { (a < self.now.groups) × (t < words_per_slot) }
-        ensures value { result ≡ stated_open (statements self.now) (figures_of figures.now) self.now.groups t a }
+        ensures value { result ≡ stated_open (sent_on self.now) (figures_of figures.now) self.now.groups t a }
         ensures bound { unsigned_abs result ≤ 2 ^ 37 }
     {
         let consumption = i64::from(self.value(a, Slot::Cons, t));
@@ -91,7 +91,7 @@ impl WholeSheet<'_, '_> {
     // How far group `a`'s confirmed open position lies beyond its limit, by its confirmed trades of the day.
     fn confirmed_excess(&self, figures: &Group, trades: &DayTrades, a: usize, t: usize) -> u64
         requires { (a < self.now.groups) × (t < words_per_slot) }
-        ensures value { result ≡ excess (figures_of figures.now) After (open_position (figures_of figures.now) (day_net trades.now.taken trades.now.given t -ℤ pos (statements self.now a cons t))) }
+        ensures value { result ≡ excess (figures_of figures.now) After (open_position (figures_of figures.now) (day_net trades.now.taken trades.now.given t -ℤ pos (sent_on self.now a cons t))) }
         ensures bound { result ≤ 2 ^ 37 }
     {
         let confirmed = open_position(figures, self.check_value(trades, a, t));
@@ -101,7 +101,7 @@ impl WholeSheet<'_, '_> {
     /// The sum of the excesses of group `a`'s confirmed open position over the day's `q` quarter hours.
     pub fn day_excess(&self, figures: &Group, a: usize, q: usize) -> u64
         requires { (a < self.now.groups) × (q ≤ words_per_slot) }
-        ensures value { result ≡ day_excess (statements self.now) (figures_of figures.now) self.now.groups a q }
+        ensures value { result ≡ day_excess (sent_on self.now) (figures_of figures.now) self.now.groups a q }
         ensures bound { result ≤ 2 ^ 37 * q }
     {
         let trades = self.confirmed_trades(a);

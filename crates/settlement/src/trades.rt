@@ -2,7 +2,7 @@
 ghost use Rattle.std.specs.Prelude.{◌≡◌, ◌*◌, ◌^◌, ◌<◌, ◌≤◌, pos, ◌-ℤ◌, unsigned_abs};
 ghost use Rattle.forms.specs.Slots.{out_to, in_from};
 ghost use Rattle.settlement.specs.Sheets.{words_per_slot};
-ghost use Rattle.settlement.specs.Statements.{statements};
+ghost use Rattle.settlement.specs.Statements.{sent_on};
 ghost use Rattle.settlement.specs.Positions.{confirmed as confirmed-trade, confirmed_with, stated_with};
 
 use crate::sheet::WholeSheet;
@@ -19,7 +19,7 @@ impl WholeSheet<'_, '_> {
     /// The confirmed trade from group `a` to group `b`: the lower of the two sides' values.
     pub fn trade(&self, a: usize, b: usize, t: usize) -> u32
         requires { (a < self.now.groups) × ((b < self.now.groups) × (t < words_per_slot)) }
-        ensures { result ≡ confirmed-trade (statements self.now) t a b }
+        ensures { result ≡ confirmed-trade (sent_on self.now) t a b }
     {
         let out_to = self.value(a, Slot::OutTo(b as u8), t);
         let in_from = self.value(b, Slot::InFrom(a as u8), t);
@@ -29,8 +29,8 @@ impl WholeSheet<'_, '_> {
     // The trades of group `a` with group `b`, in less out. Each of the four words is read once.
     fn between(&self, a: usize, b: usize, t: usize) -> TradeSums
         requires { (a < self.now.groups) × ((b < self.now.groups) × (t < words_per_slot)) }
-        ensures stated { result.stated ≡ pos (statements self.now a (in_from b) t) -ℤ pos (statements self.now a (out_to b) t) }
-        ensures confirmed { result.confirmed ≡ pos (confirmed-trade (statements self.now) t b a) -ℤ pos (confirmed-trade (statements self.now) t a b) }
+        ensures stated { result.stated ≡ pos (sent_on self.now a (in_from b) t) -ℤ pos (sent_on self.now a (out_to b) t) }
+        ensures confirmed { result.confirmed ≡ pos (confirmed-trade (sent_on self.now) t b a) -ℤ pos (confirmed-trade (sent_on self.now) t a b) }
         ensures bound { (unsigned_abs result.stated ≤ 2 ^ 32) × (unsigned_abs result.confirmed ≤ 2 ^ 32) }
     {
         let own_out = self.value(a, Slot::OutTo(b as u8), t);
@@ -46,8 +46,8 @@ impl WholeSheet<'_, '_> {
     /// The trades of group `a` with all other groups, in less out, by one pass.
     pub fn sums(&self, a: usize, t: usize) -> TradeSums
         requires { (a < self.now.groups) × (t < words_per_slot) }
-        ensures stated { result.stated ≡ stated_with (statements self.now) t a self.now.groups }
-        ensures confirmed { result.confirmed ≡ confirmed_with (statements self.now) t a self.now.groups }
+        ensures stated { result.stated ≡ stated_with (sent_on self.now) t a self.now.groups }
+        ensures confirmed { result.confirmed ≡ confirmed_with (sent_on self.now) t a self.now.groups }
         ensures bound { (unsigned_abs result.stated ≤ 2 ^ 32 * self.now.groups) × (unsigned_abs result.confirmed ≤ 2 ^ 32 * self.now.groups) }
     {
         let mut stated: i64 = 0;

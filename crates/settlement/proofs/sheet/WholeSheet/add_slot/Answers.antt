@@ -1,6 +1,6 @@
 use Rattle.std.proofs.Common.{◌≡◌, ◌+◌, ◌*◌, get_or, ◌∙◌, arith, rules}
 use Rattle.forms.specs.Slots.{slot_of}
-use Rattle.settlement.specs.Statements.{statements}
+use Rattle.settlement.specs.Statements.{sent_on}
 use Rattle.settlement.proofs.Places.{sent_at, unsent_at}
 use Rattle.settlement.proofs.sheet.WholeSheet.add_slot.Goals as goal
 
@@ -8,7 +8,7 @@ pub returns-then-self-place-clause-value : goal.returns-then-self-place-clause-v
 returns-then-self-place-clause-value c =
     let sheet = c.args.self.now in
     let place = c.slot_place-place in
-    λ t l. c.add_words.ensures.value (statements sheet c.args.group (slot_of c.args.slot))
+    λ t l. c.add_words.ensures.value (sent_on sheet c.args.group (slot_of c.args.slot))
     (λ u w h p.
     let read : w ≡ get_or sheet.words.now (place.result * 96 + u) 0 = search rules in
     read ∙ sent_at _ _ _ _ _ u _ place.ensures.value c.if-self-place.true)

@@ -9,7 +9,7 @@ use Rattle.forms.specs.Slots.{cons}
 use Rattle.settlement.specs.declared.phase.Phase.TheVariants.{After}
 use Rattle.settlement.specs.Days.{day_net}
 use Rattle.settlement.specs.Positions.{open_position, confirmed_open, excess}
-use Rattle.settlement.specs.Statements.{statements}
+use Rattle.settlement.specs.Statements.{sent_on}
 use Rattle.settlement.proofs.Excesses.{day_excess_sum, sum_low}
 use Rattle.settlement.proofs.sheet.WholeSheet.day_excess.Goals as goal
 
@@ -23,12 +23,12 @@ abbrev over : goal.After-sum → ℕ → ℕ
 over c t =
     let f = figures_of c.args.figures.now in
     let trades = c.confirmed_trades-trades.result in
-    excess f After (open_position f (day_net trades.taken trades.given t -ℤ pos (statements c.args.self.now c.args.a cons t)))
+    excess f After (open_position f (day_net trades.taken trades.given t -ℤ pos (sent_on c.args.self.now c.args.a cons t)))
 
 pub returns-clause-value : goal.returns-clause-value
 unfolding confirmed_open
 returns-clause-value c =
-    let S = statements c.args.self.now in
+    let S = sent_on c.args.self.now in
     let f = figures_of c.args.figures.now in
     let a = c.args.a in
     sum_from_yields_List _ _ c.sum.ensures.ran
