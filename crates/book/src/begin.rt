@@ -25,6 +25,7 @@ fn nothing_kept() -> [GroupAccount; ACCOUNTS]
     ensures penalties { (k : ℕ) → slice_index (map penalties_in result) k ≡ 0 }
     ensures balances { (k : ℕ) → slice_index (map balance_in result) k ≡ 0 }
 {
+    // Made here alone, so that no `Default` is needed.
     let account = GroupAccount {
         version: 0,
         marks: Marks::none(),

@@ -15,7 +15,8 @@ use forms::fault::Fault;
 use forms::opening::OpeningReader;
 use stage::rule::StageRule;
 
-/// A place for a book: empty, or holding one that is open under a rule.
+/// A place for a book: empty, or holding one that is open under a rule. Each call but `open` asks for
+/// it by the library's `ok_or` and `?`, which a helper of our own would not shorten.
 #[derive(Drop)]
 pub struct Book<R> {
     pub(crate) inner: Option<Opened<R>>,

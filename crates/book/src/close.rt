@@ -78,6 +78,7 @@ impl ClosingDay<'_, '_, '_> {
     {
         let ledger = self.day.ledger;
         let mut accounts = ledger.accounts;
+        // Through a `zip` with the accounts nothing is known of what was written.
         for (a, row) in rows.iter().enumerate() {
             accounts[a] = ledger.account(a).day_done(row.balance);
         }

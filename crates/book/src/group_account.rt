@@ -4,7 +4,8 @@ use stage::marks::Marks;
 /// One group's version of the day, marks and totals. Money is in cents.
 #[derive(Clone, Copy)]
 pub struct GroupAccount {
-    /// The version of the last message accepted today, 0 if there is none.
+    /// The version of the last message accepted today, 0 if there is none, so that the next is always
+    /// one more.
     pub version: u16,
     /// The marks of the days past their cut-off.
     pub marks: Marks,

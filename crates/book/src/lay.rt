@@ -18,6 +18,7 @@ fn lay_series(message: &Message<'_>, i: u8, at: usize, sheet: &mut [u32])
     requires room { at + message.now.quarters ≤ length sheet.old }
     ensures { (k : ℕ) → slice_index sheet.new k ≡ series_laid message.now.quarters message.now.bytes.now i at message.now.quarters sheet.old k }
 {
+    // Through a `zip` with the words of the slot nothing is known of what was written.
     for (t, word) in message.words(i).iter().enumerate() {
         sheet[at + t] = u32::from_be_bytes(*word);
     }
@@ -30,6 +31,7 @@ impl Ledger {
         requires sheet { length sheet.old ≡ sheet_size (size (state_of self.now)) }
         ensures { sheet.new ≡ sheet_after (size (state_of self.now)) (day_quarters (state_of self.now)) own message.now.bytes.now sheet.old }
     {
+        // By its number: the place of a slot is reckoned.
         for number in 0..slots_per_group(self.groups()) {
             if let Some(i) = message.find(slot_at(self.groups(), number)) {
                 let at = self.place(own, number) * WORDS_PER_SLOT;

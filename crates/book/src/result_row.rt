@@ -16,7 +16,7 @@ pub struct ResultRow {
 }
 
 impl ResultRow {
-    /// A row that holds nothing yet.
+    /// A row that holds nothing yet. `Default` would be a second name for it.
     pub const BLANK: ResultRow = ResultRow {
         day: 0,
         group: 0,

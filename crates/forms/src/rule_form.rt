@@ -26,6 +26,7 @@ pub fn read_rule(form: &[u8]) -> Result<RuleForm, Fault>
     if form.len() != RULE_FORM {
         return Err(Fault::WrongLength);
     }
+    // The kind of a rule form is read here alone.
     match (form[0], be16_at(form, 1)) {
         (1, days @ 1..=DAYS) => Ok(RuleForm::Rolling(days)),
         (2, days @ 1..=DAYS) => Ok(RuleForm::Run(days)),

@@ -1,7 +1,8 @@
 //! A schedule message in bytes, read in place.
 //!
 //! Series and quarter hours count from 0; only the places of faults and of a series as read count
-//! from 1.
+//! from 1. Each function asks that the series it is given is one of the message's, as an index is
+//! asked to be in range: a type for such a number would be no plainer.
 #![tactic(auto)]
 
 ghost use Rattle.std.specs.Prelude.{◌≡◌, ℕ, ◌+◌, ◌*◌, ◌<◌, ◌≤◌, length, slice_index_or, Ok, []};

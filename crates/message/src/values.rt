@@ -1,6 +1,7 @@
 //! Which values a message may have.
-ghost use Rattle.std.specs.Prelude.{◌≡◌, ◌<◌, false, true, is_ok, Some};
-ghost use Rattle.message.specs.Form.{series_count, kind_at, counter_at};
+ghost use Rattle.std.specs.Prelude.{◌≡◌, ◌<◌, nat_lt, is_ok, Some};
+ghost use Rattle.forms.specs.Checks.{refuse_if};
+ghost use Rattle.message.specs.Form.{series_count, kind_at, counter_at, value_at};
 ghost use Rattle.message.specs.Places.{place_under};
 ghost use Rattle.message.specs.Told.{is_forecast};
 ghost use Rattle.message.specs.Values.{in_series, in_message, range_check, forecast_check, opposed_check, values_check};
@@ -24,6 +25,7 @@ impl<'a> Message<'a> {
         requires { i < series_count self.now.bytes.now }
         ensures { result ≡ is_ok (in_series self.now.quarters (range_check self.now.quarters self.now.bytes.now) i) }
     {
+        // A `fold` of `&` would be the same pass, no plainer.
         let mut within = true;
         for word in self.words(i) {
             within &= u32::from_be_bytes(*word) <= POWER_BOUND;
@@ -31,17 +33,14 @@ impl<'a> Message<'a> {
         within
     }
 
-    /// The value of series `i` at `t` is not above the bound.
-    fn check_bound(&self, i: u8, t: u8) -> Result<(), Fault>
+    /// The value of series `i` at `t` is not above `most`, or else this fault.
+    fn check_most(&self, i: u8, t: u8, most: u32, fault: Fault) -> Result<(), Fault>
         requires there { i < series_count self.now.bytes.now }
         requires within { t < self.now.quarters }
-        ensures { result ≡ range_check self.now.quarters self.now.bytes.now i t }
+        ensures { result ≡ refuse_if (nat_lt most (value_at self.now.quarters self.now.bytes.now i t)) fault }
     {
-        if self.value(i, t) > POWER_BOUND {
-            return Err(Fault::OutOfRange {
-                series: place(i),
-                quarter: place(t),
-            });
+        if self.value(i, t) > most {
+            return Err(fault);
         }
         Ok(())
     }
@@ -55,23 +54,10 @@ impl<'a> Message<'a> {
         if self.is_within(i) {
             return Ok(());
         }
-        in_order(self.quarters, |t| self.check_bound(i, t))
-    }
-
-    /// The value of a forecast `i` at `t` is 0, as it is to be without metering points.
-    fn check_zero(&self, i: u8, t: u8) -> Result<(), Fault>
-        requires there { i < series_count self.now.bytes.now }
-        requires forecast { is_forecast (kind_at self.now.bytes.now i) ≡ true }
-        requires within { t < self.now.quarters }
-        ensures { result ≡ forecast_check self.now.quarters false self.now.bytes.now i t }
-    {
-        if self.value(i, t) > 0 {
-            return Err(Fault::UnmeteredForecast {
-                series: place(i),
-                quarter: place(t),
-            });
-        }
-        Ok(())
+        in_order(self.quarters, |t| {
+            let (series, quarter) = (place(i), place(t));
+            self.check_most(i, t, POWER_BOUND, Fault::OutOfRange { series, quarter })
+        })
     }
 
     /// Series `i` is no forecast above 0 of a group without metering points.
@@ -83,7 +69,10 @@ impl<'a> Message<'a> {
         if metered || !is_forecast(self.head(i).kind) {
             return Ok(());
         }
-        in_order(self.quarters, |t| self.check_zero(i, t))
+        in_order(self.quarters, |t| {
+            let (series, quarter) = (place(i), place(t));
+            self.check_most(i, t, 0, Fault::UnmeteredForecast { series, quarter })
+        })
     }
 
     /// Whether series `i`, a trade out, and its opposite are never above 0 at once, in one plain pass.
@@ -93,6 +82,7 @@ impl<'a> Message<'a> {
         requires into { place_under self.now.bytes.now 2 (counter_at self.now.bytes.now i) ≡ Some opposite }
         ensures { result ≡ is_ok (in_series self.now.quarters (opposed_check self.now.quarters self.now.bytes.now) i) }
     {
+        // As in `is_within`.
         let mut unopposed = true;
         for (out, into) in self.words(i).iter().zip(self.words(opposite)) {
             unopposed &= (u32::from_be_bytes(*out) == 0) | (u32::from_be_bytes(*into) == 0);

@@ -11,7 +11,7 @@ use std::marker::Model;
 const CAPACITY: usize = 131_072;
 
 /// An input with a buffer in front of it. `bytes[start..end]` has come and is not yet taken.
-// `BufReader` reads no more behind what it holds, so a body is copied out: with it the program took an eighth longer.
+// Tried: with a `BufReader` of 8 KiB and each body copied out of it, the program took an eighth longer.
 #[derive(Drop)]
 pub struct InputBuffer<R> {
     input: R,

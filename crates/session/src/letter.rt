@@ -2,7 +2,7 @@
 ghost use Rattle.session.specs.Letters.{Decodes};
 
 /// What a frame is.
-#[derive(Clone, Copy, Debug, PartialEq, Eq)]
+#[derive(Clone, Copy)]
 pub(crate) enum Letter {
     Rule,
     Opening,
@@ -12,7 +12,7 @@ pub(crate) enum Letter {
 }
 
 /// A letter that no frame has.
-#[derive(Clone, Copy, Debug, PartialEq, Eq)]
+#[derive(Clone, Copy)]
 pub(crate) struct UnknownLetter;
 
 impl TryFrom<u8> for Letter {

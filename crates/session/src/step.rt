@@ -147,8 +147,8 @@ impl Session {
         Ok(Reply::Closed)
     }
 
-    /// Takes one frame and answers it, for the eight groups that the program `account` serves. Want of
-    /// memory, met only by an opening form, changes nothing.
+    /// Takes one frame, by its letter as it came, and answers it, for the eight groups that the program
+    /// `account` serves. Want of memory, met only by an opening form, changes nothing.
     pub fn step(&mut self, heap: Global, letter: u8, body: &[u8]) -> Result<Reply, AllocError>
         ensures { MatchResult result (λ reply. (told_by reply, view_of self.new) ≡ stepped (view_of self.old) letter body.now) (λ _. view_of self.new ≡ view_of self.old) }
     {

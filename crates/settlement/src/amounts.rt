@@ -41,6 +41,8 @@ pub fn to_cents(sum: i64) -> i64
     if sum < 0 { -cents } else { cents }
 }
 
+// Both prices meet in these few functions alone: a struct for the two would be no plainer.
+
 // An imbalance times a price.
 fn product(imbalance: i64, price: i32) -> i64
     requires { (unsigned_abs imbalance ≤ 68730000000) × (unsigned_abs price ≤ 1000000) }

@@ -1,4 +1,6 @@
-//! The sheet of words and what stands in it. Groups and quarter hours count from 0.
+//! The sheet of words. Groups and quarter hours count from 0. Each function asks that the groups,
+//! slots and quarter hours it is given are there, as an index is asked to be in range: types for such
+//! numbers would be no plainer.
 ghost use Rattle.std.specs.Prelude.{◌≡◌, ◌*◌, ◌<◌, ◌≤◌};
 ghost use Rattle.forms.specs.Slots.{slot_of};
 ghost use Rattle.settlement.specs.Sheets.{words_per_slot, slots, sheet_size, slot_number, slot_place, Within, SlotsApart, SheetOf};
@@ -53,7 +55,8 @@ pub fn slots_apart()
     ensures { SlotsApart }
 {}
 
-/// A reader over the sheet of `groups` groups and the flags that say which slots were sent.
+/// A reader over the sheet of `groups` groups and the flags that say which slots were sent. Its parts
+/// need not fit one another; those of a `WholeSheet` do.
 #[derive(Clone, Copy)]
 pub struct Sheet<'s, 'w> {
     pub(crate) groups: usize,

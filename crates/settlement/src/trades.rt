@@ -50,6 +50,7 @@ impl WholeSheet<'_, '_> {
         ensures confirmed { result.confirmed ≡ confirmed_with (sent_on self.now) t a self.now.groups }
         ensures bound { (unsigned_abs result.stated ≤ 2 ^ 32 * self.now.groups) × (unsigned_abs result.confirmed ≤ 2 ^ 32 * self.now.groups) }
     {
+        // Each of the four words is read once for both sums, which two chains would not do.
         let mut stated: i64 = 0;
         let mut confirmed: i64 = 0;
         for b in 0..self.groups {

@@ -2,7 +2,8 @@
 ghost use Rattle.std.specs.Prelude.{◌≡◌, ℕ, ◌+◌, ◌^◌, ◌<◌, ◌≤◌, length, slice_index};
 ghost use Rattle.settlement.specs.Days.{Adds};
 
-/// Adds to each sum the word of its quarter hour.
+/// Adds to each sum the word of its quarter hour, which `word` answers by number: it reads one list, two
+/// or a message.
 pub fn add_words<F: Fn(usize) -> u32>(sums: &mut [u64], word: F)
     requires called { (t : ℕ) → t < length sums.old → F.pre word t }
     requires room { (t : ℕ) → slice_index sums.old t ≤ 2 ^ 40 }

@@ -3,6 +3,7 @@ ghost use Rattle.std.specs.Prelude.{◌≡◌, ◌≤◌, length};
 
 /// The marks of one group's days, from day 1 to day `days`.
 /// Day d is bit (d - 1) % 64 of word (d - 1) / 64; bits past the last day mean nothing.
+// Words and a count, since no heap is used.
 #[derive(Clone, Copy)]
 pub struct Marks {
     pub(crate) words: [u64; 6],

@@ -29,6 +29,7 @@ impl StageRule for Run {
     ghost monotone = { run_monotone };
 
     fn stage(&self, marks: &Marks) -> u16 {
+        // A fold over both numbers would be no plainer.
         let mut count = 0;
         let mut idle = 0;
         for day in 1..=marks.days() {
