@@ -1,13 +1,14 @@
 -- What the outcome of a message means.
 use Rattle.std.proofs.Common.{◌≡◌, ℕ, ◌+◌, ◌-◌, ◌*◌, ◌/◌, ◌<◌, ◌≤◌, Bool, true, false, cond, eqb, leb, List, length, get_or, set, Some, None, Ok, Err, unwrap_or, sym, refl, ap, ◌∙◌, inl, inr, arith}
+use Rattle.std.specs.Result.{result_and}
 use Rattle.std.proofs.lemmas.Nat.{mul-add-lt, mul-le}
 use Rattle.std.proofs.lemmas.List.FromFn.{get_or-map-range_with_len}
 use Rattle.std.proofs.lemmas.List.{get_or-set_same, get_or-set_other, get_or_past, length-set}
 use Rattle.std.proofs.lemmas.Bool.{cases_eq, cases_lt, eq-eqb, ne_eqb, eqb-true, leb-true, and_parts, cond-true, cond-false}
-use Rattle.forms.specs.Checks.{Verdict, verdict, and_then, refuse_if}
+use Rattle.forms.specs.Checks.{Verdict, verdict, refuse_if}
 use Rattle.forms.specs.Slots.{Slot}
 use Rattle.forms.specs.declared.fault.Fault.TheVariants.{WrongPhase, WrongBuffer, WrongGroup}
-use Rattle.forms.proofs.Firsts.{and_then_left, and_then_right, allowed}
+use Rattle.forms.proofs.Firsts.{passed_left, passed_right, allowed}
 use Rattle.message.specs.Form.{header_of, said}
 use Rattle.settlement.specs.Sheets.{Within, slots, slot_number, slot_place, sheet_size, on_sheet}
 use Rattle.settlement.proofs.Places.{number_below, place_below}
@@ -54,11 +55,11 @@ module _ (g q own : ℕ) (form sheet : List ℕ) (sent : List Bool) (a : ℕ) (s
 module _ (s : State) (sheet form : List ℕ) (accepted : submit_check s sheet form ≡ Ok tt) where
   abbrev after-header : Verdict
   after-header =
-      and_then (day_check s sheet)
-      (and_then (sender_check s (said form).group (said form).day (said form).version) (series_check s sheet ((said form).group - 1) form))
+      result_and (day_check s sheet)
+      (result_and (sender_check s (said form).group (said form).day (said form).version) (series_check s sheet ((said form).group - 1) form))
 
   past_header : after-header ≡ Ok tt
-  past_header = and_then_right (verdict (header_of (day_quarters s) form)) after-header accepted
+  past_header = passed_right (verdict (header_of (day_quarters s) form)) after-header accepted
 
   -- the sheet fits, and the sender is one of the groups
   room_there : length sheet ≡ sheet_size (size s)
@@ -66,15 +67,15 @@ module _ (s : State) (sheet form : List ℕ) (accepted : submit_check s sheet fo
       eqb-true (length sheet) (sheet_size (size s))
       (and_parts (eqb (length sheet) (sheet_size (size s))) (all_powers sheet)
       (allowed (sheet_fits (size s) sheet) WrongBuffer
-      (and_then_right (refuse_if (year_over s) WrongPhase) _ (and_then_left (day_check s sheet) _ past_header)))
+      (passed_right (refuse_if (year_over s) WrongPhase) _ (passed_left (day_check s sheet) _ past_header)))
       ).0
 
   sender_one : one_of (size s) (said form).group ≡ true
   sender_one =
       allowed (one_of (size s) (said form).group) WrongGroup
-      (and_then_left (group_check s (said form).group) _
-      (and_then_left (sender_check s (said form).group (said form).day (said form).version) _
-      (and_then_right (day_check s sheet) _ past_header)))
+      (passed_left (group_check s (said form).group) _
+      (passed_left (sender_check s (said form).group (said form).day (said form).version) _
+      (passed_right (day_check s sheet) _ past_header)))
 
   pub sender_named : 1 ≤ (said form).group
   sender_named = leb-true 1 (said form).group (and_parts (leb 1 (said form).group) (leb (said form).group (size s)) sender_one).0

@@ -9,7 +9,8 @@ use Rattle.book.specs.declared.result_row.ResultRow.{ResultRow}
 use Rattle.book.specs.Closes.{day_row, day_rows, day_done, closed_group, day_closed, balance_today}
 use Rattle.book.specs.Kept.{most_balance}
 use Rattle.book.specs.Rows.{Row, row_of, amount_in, balance_in_row, no_row}
-use Rattle.book.specs.States.{State, all_flags, size, kept}
+use Rattle.book.specs.States.{State, size, kept}
+use Rattle.book.specs.Sheets.{all_flags}
 
 pub amounts_more : (xs : List ResultRow) (i : ℕ) (v : ResultRow) → i < length xs → amount_in v ≤ most_balance
     → ((k : ℕ) → k < i → get_or (map amount_in xs) k 0 ≤ most_balance) → (k : ℕ) → k < i + 1 → get_or (map amount_in (set xs i v)) k 0 ≤ most_balance

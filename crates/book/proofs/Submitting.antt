@@ -1,7 +1,8 @@
 -- The tests of a message, one after another.
 use Rattle.std.proofs.Common.{◌≡◌, ℕ, ◌-◌, List, Ok, Err, Option, Result, refl, ap}
+use Rattle.std.specs.Result.{result_and}
 use Rattle.forms.specs.declared.fault.Fault.{Fault}
-use Rattle.forms.specs.Checks.{Verdict, verdict, and_then}
+use Rattle.forms.specs.Checks.{Verdict, verdict}
 use Rattle.message.specs.declared.Header.{Header}
 use Rattle.message.specs.Form.{header_of, said}
 use Rattle.book.specs.declared.answers.Submitted.{Submitted}
@@ -9,7 +10,7 @@ use Rattle.book.specs.Messages.{sender_check, series_check, submit_check, submit
 use Rattle.book.specs.Queries.{day_check}
 use Rattle.book.specs.States.{State, size, day_quarters}
 
-in_order : (p q r t : Verdict) (v : Verdict) → p ≡ Ok tt → q ≡ Ok tt → and_then r t ≡ v → and_then p (and_then q (and_then r t)) ≡ v
+in_order : (p q r t : Verdict) (v : Verdict) → p ≡ Ok tt → q ≡ Ok tt → result_and r t ≡ v → result_and p (result_and q (result_and r t)) ≡ v
 in_order p q r t v a b c = rw (a, b) c
 
 module _ (s : State) (sheet form : List ℕ) (h : Header) (header : header_of (day_quarters s) form ≡ Ok h) (day : day_check s sheet ≡ Ok tt) where

@@ -1,8 +1,9 @@
 -- Checks that have passed.
 use Rattle.std.proofs.Common.{◌≡◌, ℕ, ◌≤◌, Bool, true, not, Ok, Result, refl, arith}
+use Rattle.std.specs.Result.{result_and}
 use Rattle.std.proofs.lemmas.Bool.Decides.{nat_tests}
 use Rattle.forms.specs.declared.fault.Fault.{Fault}
-use Rattle.forms.specs.Checks.{Verdict, and_then, refuse_if}
+use Rattle.forms.specs.Checks.{Verdict, refuse_if}
 use Rattle.book.specs.Queries.{one_of, answer_if}
 
 pub one_of_true : (n x : ℕ) → 1 ≤ x → x ≤ n → one_of n x ≡ true
@@ -12,7 +13,7 @@ one_of_true n x h k = grind (arith, nat_tests)
 pub not_refused : (b : Bool) (e : Fault) → b ≡ true → refuse_if (not b) e ≡ Ok tt
 not_refused b e h = rw h refl
 
-pub both_passed : (r q : Verdict) → r ≡ Ok tt → q ≡ Ok tt → and_then r q ≡ Ok tt
+pub both_passed : (r q : Verdict) → r ≡ Ok tt → q ≡ Ok tt → result_and r q ≡ Ok tt
 both_passed r q h k = rw h k
 
 pub answered : {A : Type 0} (r : Verdict) (x y : A) → r ≡ Ok tt → x ≡ y → ◌≡◌ {A = Result A Fault} (Ok x) (answer_if r y)

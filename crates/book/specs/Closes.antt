@@ -1,8 +1,9 @@
 -- What close does.
 use Rattle.std.specs.Prelude.{◌≡◌, ℕ, ◌+◌, Bool, false, not, List, map, length, replicate, ℤ, ◌+ℤ◌, Ok, ◌==◌}
+use Rattle.std.specs.Result.{result_and}
 use Rattle.std.specs.List.{range_with_len}
 use Rattle.forms.specs.declared.fault.Fault.TheVariants.{WrongPhase, WrongBuffer}
-use Rattle.forms.specs.Checks.{Verdict, and_then, refuse_if}
+use Rattle.forms.specs.Checks.{Verdict, refuse_if}
 use Rattle.forms.specs.Closings.{ClosingFormed, closing_sizes, closing_check, feed_in, long_price, short_price}
 use Rattle.stage.specs.Marked.{on_day}
 use Rattle.settlement.specs.declared.phase.Phase.TheVariants.{Ahead}
@@ -11,7 +12,8 @@ use Rattle.settlement.specs.Positions.{net_purchases}
 use Rattle.book.specs.Cuts.{is_after}
 use Rattle.book.specs.Rows.{Row}
 use Rattle.book.specs.Queries.{if_passed, day_check}
-use Rattle.book.specs.States.{State, GroupState, all_flags, size, kept, today, day_quarters, statements}
+use Rattle.book.specs.States.{State, GroupState, size, kept, today, day_quarters, statements}
+use Rattle.book.specs.Sheets.{all_flags}
 
 -- What the caller lends a call.
 pub record Lent : Type 0 where
@@ -80,10 +82,10 @@ day_rows m s sheet form = map (day_row m s sheet form) (range_with_len 0 (size s
 -- the tests of a closing form, in rising number; rows is how many result rows are lent
 abbrev pub close_check : State → List ℕ → ℕ → List ℕ → Verdict
 close_check s sheet rows form =
-    and_then (closing_sizes (size s) (day_quarters s) form)
-    (and_then (refuse_if (not (is_after s.phase)) WrongPhase)
-    (and_then (day_check s sheet)
-    (and_then (refuse_if (not (rows == size s)) WrongBuffer) (closing_check (size s) (day_quarters s) form))))
+    result_and (closing_sizes (size s) (day_quarters s) form)
+    (result_and (refuse_if (not (is_after s.phase)) WrongPhase)
+    (result_and (day_check s sheet)
+    (result_and (refuse_if (not (rows == size s)) WrongBuffer) (closing_check (size s) (day_quarters s) form))))
 
 -- what close answers, the state after it, and what it leaves in what was lent
 abbrev pub closed_by : (List Bool → ℕ) → State → Lent → List ℕ → Verdict × State × Lent

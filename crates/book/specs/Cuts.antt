@@ -1,9 +1,10 @@
 -- What advance does.
 use Rattle.std.specs.Prelude.{ℕ, ◌+◌, Bool, true, false, List, [], ◌∷◌, ◌++◌, map}
+use Rattle.std.specs.Result.{result_and}
 use Rattle.std.specs.List.{range_with_len}
 use Rattle.forms.specs.declared.fault.Fault.TheVariants.{WrongPhase}
 use Rattle.forms.specs.Figures.{RateFigures}
-use Rattle.forms.specs.Checks.{Verdict, and_then, refuse_if}
+use Rattle.forms.specs.Checks.{Verdict, refuse_if}
 use Rattle.settlement.specs.declared.phase.Phase.{Phase}
 use Rattle.settlement.specs.declared.phase.Phase.TheVariants.{Ahead, Near, After}
 use Rattle.settlement.specs.Positions.{day_excess}
@@ -51,7 +52,7 @@ next_phase m s sheet After = s
 
 abbrev pub advance_check : State → List ℕ → Verdict
 advance_check s sheet =
-    and_then (refuse_if (is_after s.phase) WrongPhase) (day_check s sheet)
+    result_and (refuse_if (is_after s.phase) WrongPhase) (day_check s sheet)
 
 -- what advance answers, and the state after it
 abbrev pub advanced : (List Bool → ℕ) → State → List ℕ → Verdict × State

@@ -1,10 +1,11 @@
 -- What submit does.
 use Rattle.std.specs.Prelude.{◌≡◌, ℕ, zero, suc, ◌+◌, ◌-◌, ◌*◌, ◌/◌, ◌%◌, ◌<◌, Bool, false, cond, not, ◌&&◌, ◌||◌, List, map, length, is_some, Ok, Err, Option, Result, ◌==◌, nat_le, nat_lt, slice_index, slice_index_or, slice_set}
+use Rattle.std.specs.Result.{result_and}
 use Rattle.std.specs.List.{range_with_len}
 use Rattle.std.specs.Option.{option_map}
 use Rattle.forms.specs.declared.fault.Fault.{Fault}
 use Rattle.forms.specs.declared.fault.Fault.TheVariants.{WrongDay, WrongVersion, MissingSeries, GrowingPosition}
-use Rattle.forms.specs.Checks.{Verdict, verdict, and_then, refuse_if, each_of}
+use Rattle.forms.specs.Checks.{Verdict, verdict, refuse_if, each_of}
 use Rattle.forms.specs.Slots.{Slot, cons, prod, pump}
 use Rattle.message.specs.Form.{Formed, header_of, said, value_at}
 use Rattle.message.specs.Heads.{heads_check}
@@ -62,22 +63,22 @@ growth_check s sheet own form =
 -- The tests of a message, in rising number. First its group, day and version, then its series; own is the sender.
 abbrev pub sender_check : State → ℕ → ℕ → ℕ → Verdict
 sender_check s group day version =
-    and_then (group_check s group)
-    (and_then (refuse_if (not (day == today s)) WrongDay)
+    result_and (group_check s group)
+    (result_and (refuse_if (not (day == today s)) WrongDay)
     (refuse_if (not (version == (kept s (group - 1)).version + 1)) WrongVersion))
 
 abbrev pub series_check : State → List ℕ → ℕ → List ℕ → Verdict
 series_check s sheet own form =
-    and_then (heads_check (size s) own form)
-    (and_then (refuse_if (incomplete s own form) MissingSeries)
-    (and_then (values_check (day_quarters s) (figures s own).metered form)
+    result_and (heads_check (size s) own form)
+    (result_and (refuse_if (incomplete s own form) MissingSeries)
+    (result_and (values_check (day_quarters s) (figures s own).metered form)
     (growth_check s sheet own form)))
 
 abbrev pub submit_check : State → List ℕ → List ℕ → Verdict
 submit_check s sheet form =
-    and_then (verdict (header_of (day_quarters s) form))
-    (and_then (day_check s sheet)
-    (and_then (sender_check s (said form).group (said form).day (said form).version) (series_check s sheet ((said form).group - 1) form)))
+    result_and (verdict (header_of (day_quarters s) form))
+    (result_and (day_check s sheet)
+    (result_and (sender_check s (said form).group (said form).day (said form).version) (series_check s sheet ((said form).group - 1) form)))
 
 -- Its series stand in their slots: a place belongs to the sender, and the message has the series of that slot.
 abbrev pub owns : ℕ → ℕ → ℕ → Bool

@@ -1,14 +1,16 @@
 -- What open does, and what a place holds.
 use Rattle.std.specs.Prelude.{ℕ, false, not, List, length, replicate, Some, None, Option}
+use Rattle.std.specs.Result.{result_and}
 use Rattle.forms.specs.declared.fault.Fault.TheVariants.{WrongBuffer}
-use Rattle.forms.specs.Checks.{Verdict, and_then, refuse_if}
+use Rattle.forms.specs.Checks.{Verdict, refuse_if}
 use Rattle.forms.specs.Figures.{Terms}
 use Rattle.forms.specs.Openings.{sizes_check, rows_check, groups_told, terms_of}
 use Rattle.settlement.specs.declared.phase.Phase.TheVariants.{Ahead}
 use Rattle.book.specs.declared.opened.Opened.{Opened}
 use Rattle.book.specs.Queries.{if_passed}
 use Rattle.book.specs.Sheets.{sheet_fits}
-use Rattle.book.specs.States.{State, all_flags, nothing_kept, state_of}
+use Rattle.book.specs.States.{State, nothing_kept, state_of}
+use Rattle.book.specs.Sheets.{all_flags}
 
 -- a new book under these terms: day 1, ahead, no marks, no totals, nothing sent
 unfoldable pub new_book : Terms → State
@@ -27,8 +29,8 @@ held_in (Some b) = Some (b.rule, state_of b.ledger)
 
 abbrev pub open_check : List ℕ → List ℕ → Verdict
 open_check form sheet =
-    and_then (sizes_check form)
-    (and_then (refuse_if (not (sheet_fits (groups_told form) sheet)) WrongBuffer) (rows_check form))
+    result_and (sizes_check form)
+    (result_and (refuse_if (not (sheet_fits (groups_told form) sheet)) WrongBuffer) (rows_check form))
 
 -- what open answers, what the place holds then, and the sheet: zero everywhere
 abbrev pub opened_by : {R : Type 0} → Option (R × State) → R → List ℕ → List ℕ → Verdict × Option (R × State) × List ℕ

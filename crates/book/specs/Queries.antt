@@ -1,8 +1,9 @@
 -- What the questions answer. None of them changes anything.
 use Rattle.std.specs.Prelude.{◌≡◌, ℕ, ◌-◌, ◌<◌, ◌≤◌, Bool, not, ◌&&◌, List, take, ℤ, Ok, Err, Result, ◌==◌, nat_le}
+use Rattle.std.specs.Result.{result_and}
 use Rattle.forms.specs.declared.fault.Fault.{Fault}
 use Rattle.forms.specs.declared.fault.Fault.TheVariants.{WrongPhase, WrongBuffer, WrongGroup, WrongDay, OutOfRange}
-use Rattle.forms.specs.Checks.{Verdict, and_then, refuse_if}
+use Rattle.forms.specs.Checks.{Verdict, refuse_if}
 use Rattle.stage.specs.Marked.{on_day}
 use Rattle.settlement.specs.Positions.{stated_open, confirmed_open, net_purchases, confirmed}
 use Rattle.book.specs.declared.answers.Standing.{Standing}
@@ -38,7 +39,7 @@ Numbered (Err e) check x n = check ≡ Err e
 -- the book can still be asked of the current day, and the sheet fits it
 abbrev pub day_check : State → List ℕ → Verdict
 day_check s sheet =
-    and_then (refuse_if (year_over s) WrongPhase)
+    result_and (refuse_if (year_over s) WrongPhase)
     (refuse_if (not (sheet_fits (size s) sheet)) WrongBuffer)
 
 abbrev pub group_check : State → ℕ → Verdict
@@ -50,8 +51,8 @@ quarter_check s quarter = refuse_if (not (one_of (day_quarters s) quarter)) (Out
 -- Group and quarter hour, from 1: the stated open position, the confirmed one, and the confirmed net purchases.
 abbrev pub position_check : State → List ℕ → ℕ → ℕ → Verdict
 position_check s sheet group quarter =
-    and_then (day_check s sheet)
-    (and_then (group_check s group) (quarter_check s quarter))
+    result_and (day_check s sheet)
+    (result_and (group_check s group) (quarter_check s quarter))
 
 abbrev pub position_of : State → List ℕ → ℕ → ℕ → ℤ × ℤ × ℤ
 position_of s sheet a t = (
@@ -66,8 +67,8 @@ position_answer s sheet group quarter = answer_if (position_check s sheet group 
 -- the confirmed trade from one group to another
 abbrev pub trade_check : State → List ℕ → ℕ → ℕ → ℕ → Verdict
 trade_check s sheet from to quarter =
-    and_then (day_check s sheet)
-    (and_then (refuse_if (not (one_of (size s) from && one_of (size s) to && not (from == to))) WrongGroup) (quarter_check s quarter))
+    result_and (day_check s sheet)
+    (result_and (refuse_if (not (one_of (size s) from && one_of (size s) to && not (from == to))) WrongGroup) (quarter_check s quarter))
 
 abbrev pub trade_answer : State → List ℕ → ℕ → ℕ → ℕ → Result ℕ Fault
 trade_answer s sheet from to quarter =
@@ -76,7 +77,7 @@ trade_answer s sheet from to quarter =
 -- mark and stage of a group on a day past its cut-off: the stage is the rule's answer to the marks up to that day
 abbrev pub standing_check : State → ℕ → ℕ → Verdict
 standing_check s group day =
-    and_then (group_check s group)
+    result_and (group_check s group)
     (refuse_if (not (one_of (cut_offs s.closed s.phase) day)) WrongDay)
 
 abbrev pub standing_answer : (List Bool → ℕ) → State → ℕ → ℕ → Result (Bool × ℕ) Fault

@@ -47,10 +47,6 @@ state_of l = record {
   groups = own_accounts (length (terms_in l.opening).groups) l.accounts;
 }
 
--- the flags of the slots of 16 groups
-abbrev pub all_flags : ℕ
-all_flags = 560
-
 -- how many groups there are, and what the opening form says of one
 abbrev pub size : State → ℕ
 size s = length s.terms.groups

@@ -3,7 +3,8 @@ ghost use Rattle.std.specs.Prelude.{◌≡◌, ℕ, ◌≤◌, false, map, repli
 ghost use Rattle.forms.specs.Openings.{terms_in};
 ghost use Rattle.book.specs.Kept.{days_in, penalties_in, balance_in};
 ghost use Rattle.book.specs.Opens.{new_book};
-ghost use Rattle.book.specs.States.{state_of, account_of, all_flags, nothing_kept};
+ghost use Rattle.book.specs.States.{state_of, account_of, nothing_kept};
+ghost use Rattle.book.specs.Sheets.{all_flags};
 
 use crate::group_account::GroupAccount;
 use crate::ledger::{ACCOUNTS, FLAGS, Ledger};

@@ -1,5 +1,7 @@
 //! What a book holds besides its rule.
 ghost use Rattle.std.specs.Prelude.{◌≡◌, ℕ, ◌*◌, ◌≤◌, map, length, slice_index};
+ghost use Rattle.forms.specs.Bounds.{most_groups};
+ghost use Rattle.book.specs.Sheets.{all_flags};
 ghost use Rattle.book.specs.Kept.{cut_offs, days_in, penalties_in, balance_in, most_penalty, most_balance};
 
 use crate::group_account::GroupAccount;
@@ -25,8 +27,8 @@ pub struct Ledger {
     pub(crate) sent: [bool; FLAGS],
     pub(crate) accounts: [GroupAccount; ACCOUNTS],
     ghost year: { cut_offs closed phase ≤ 366 },
-    ghost flags: { length sent ≡ 560 },
-    ghost groups: { length accounts ≡ 16 },
+    ghost flags: { length sent ≡ all_flags },
+    ghost groups: { length accounts ≡ most_groups },
     ghost marked: { (k : ℕ) → slice_index (map days_in accounts) k ≤ cut_offs closed phase },
     ghost owed: { (k : ℕ) → slice_index (map penalties_in accounts) k ≤ cut_offs closed phase * most_penalty },
     ghost settled: { (k : ℕ) → slice_index (map balance_in accounts) k ≤ closed * most_balance },

@@ -1,5 +1,7 @@
 //! The current day of a ledger.
 ghost use Rattle.std.specs.Prelude.{◌≡◌, ◌+◌, ◌*◌, ◌<◌, ◌≤◌};
+ghost use Rattle.forms.specs.Bounds.{most_groups};
+ghost use Rattle.book.specs.Sheets.{all_flags};
 ghost use Rattle.forms.specs.Figures.{figures_of};
 ghost use Rattle.settlement.specs.Sheets.{slots, sheet_size, words_per_slot};
 ghost use Rattle.book.specs.Kept.{cut_offs, days_in, penalties_in, balance_in, most_penalty, most_balance};
@@ -21,7 +23,7 @@ impl Ledger {
         ensures value { result ≡ size (state_of self.now) }
         ensures count { result ≡ self.now.opening.groups.count }
         ensures some { 2 ≤ result }
-        ensures few { result ≤ 16 }
+        ensures few { result ≤ most_groups }
     {
         self.opening.groups() as usize
     }
@@ -52,7 +54,7 @@ impl Ledger {
     pub(crate) fn place(&self, own: usize, number: usize) -> usize
         requires { (own < size (state_of self.now)) × (number < slots (size (state_of self.now))) }
         ensures value { result ≡ own * slots (size (state_of self.now)) + number }
-        ensures flag { result < 560 }
+        ensures flag { result < all_flags }
         ensures room { (result + 1) * words_per_slot ≤ sheet_size (size (state_of self.now)) }
     {
         own * slots_per_group(self.groups()) + number

@@ -1,5 +1,6 @@
 //! The whole sheet: whether it fits the book, and zero everywhere.
 ghost use Rattle.std.specs.Prelude.{◌≡◌, ◌≤◌, length, replicate, fold, bit_or};
+ghost use Rattle.forms.specs.Bounds.{most_groups};
 ghost use Rattle.book.specs.Sheets.{all_powers, sheet_fits};
 
 use forms::bounds::POWER_BOUND;
@@ -28,7 +29,7 @@ pub(crate) fn all_powers(words: &[u32]) -> bool
 
 /// Whether the sheet has the length for so many groups, and no word above the bound on powers.
 pub(crate) fn sheet_fits(groups: usize, sheet: &[u32]) -> bool
-    requires { groups ≤ 16 }
+    requires { groups ≤ most_groups }
     ensures { result ≡ sheet_fits groups sheet.now }
 {
     sheet.len() == sheet_size(groups) && all_powers(sheet)

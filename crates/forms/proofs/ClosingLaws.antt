@@ -1,9 +1,10 @@
 -- What is known of a closing form whose checks have passed, and which place a refusal names.
 use Rattle.std.proofs.Common.{◌≡◌, ℕ, ◌+◌, ◌<◌, ◌≤◌, List, nat_abs, Ok, arith}
+use Rattle.std.specs.Result.{result_and}
 use Rattle.std.proofs.lemmas.Bool.{ltb-false}
 use Rattle.std.proofs.lemmas.Bool.Decides.{nat_tests}
 use Rattle.forms.specs.Bounds.{power_bound, price_bound}
-use Rattle.forms.specs.Checks.{and_then, each_of, Earliest}
+use Rattle.forms.specs.Checks.{each_of, Earliest}
 use Rattle.forms.specs.Closings.{ClosingFormed, series_count, closing_sizes, closing_value, feed_in, long_price, short_price, value_bound, value_check, series_check, closing_check}
 use Rattle.forms.proofs.Firsts.{each_passed, each_two, unrefused, earliest_answers}
 
@@ -12,7 +13,7 @@ closing_formed g q s e = record { long = grind (arith, nat_tests) }
 
 -- the feed-ins of all groups, then the long prices, then the short ones
 pub closing_parts : (g q : ℕ) (s : List ℕ)
-    → closing_check g q s ≡ and_then (each_of (series_check g q s) g) (and_then (series_check g q s g) (series_check g q s (g + 1)))
+    → closing_check g q s ≡ result_and (each_of (series_check g q s) g) (result_and (series_check g q s g) (series_check g q s (g + 1)))
 closing_parts g q s = each_two (series_check g q s) g
 
 -- a refusal names the earliest series, and in it the earliest quarter hour

@@ -1,8 +1,9 @@
 -- Checks one after another: a loop's start, step and exit, and the theorem that the earliest fault answers.
 use Rattle.std.proofs.Common.{◌≡◌, ℕ, zero, suc, ◌+◌, ◌<◌, Bool, true, false, not, Ok, Err, sym, refl, subst, inl, inr, add-one, arith, MatchResult}
+use Rattle.std.specs.Result.{result_and}
 use Rattle.std.proofs.lemmas.Bool.{cases_order, not-false}
 use Rattle.forms.specs.declared.fault.Fault.{Fault}
-use Rattle.forms.specs.Checks.{Verdict, and_then, refuse_if, each_of, Answers, InOrder, Earliest, EarliestAnswers}
+use Rattle.forms.specs.Checks.{Verdict, refuse_if, each_of, Answers, InOrder, Earliest, EarliestAnswers}
 
 pub each_none : (f : ℕ → Verdict) → each_of f 0 ≡ Ok tt
 unfolding each_of
@@ -17,14 +18,14 @@ pub each_all : (f : ℕ → Verdict) (n : ℕ) → ((k : ℕ) → k < n → f k 
 each_all f zero h = each_none f
 each_all f (suc n) h = rw (← add-one n) (each_more f n (each_all f n (λ k l. h k (omega arith))) (h n (omega arith)))
 
-and_then_assoc : (r q p : Verdict) → and_then (and_then r q) p ≡ and_then r (and_then q p)
-and_then_assoc (Ok _) q p = refl
-and_then_assoc (Err e) q p = refl
+result_and_assoc : (r q p : Verdict) → result_and (result_and r q) p ≡ result_and r (result_and q p)
+result_and_assoc (Ok _) q p = refl
+result_and_assoc (Err e) q p = refl
 
 -- two more
-pub each_two : (f : ℕ → Verdict) (n : ℕ) → each_of f (n + 2) ≡ and_then (each_of f n) (and_then (f n) (f (n + 1)))
+pub each_two : (f : ℕ → Verdict) (n : ℕ) → each_of f (n + 2) ≡ result_and (each_of f n) (result_and (f n) (f (n + 1)))
 unfolding each_of
-each_two f n = let e : n + 2 ≡ suc (suc n) = omega arith in rw (e, add-one n) (and_then_assoc (each_of f n) (f n) (f (suc n)))
+each_two f n = let e : n + 2 ≡ suc (suc n) = omega arith in rw (e, add-one n) (result_and_assoc (each_of f n) (f n) (f (suc n)))
 
 pub each_err : (f : ℕ → Verdict) (n i : ℕ) (e : Fault) → i < n → each_of f i ≡ Ok tt → f i ≡ Err e → each_of f n ≡ Err e
 unfolding each_of
@@ -62,7 +63,7 @@ FirstOf f n e = (i : ℕ) × (i < n) × (f i ≡ Err e) × NoneOf f i
 abbrev IsFirst : (ℕ → Verdict) → ℕ → Verdict → Type 0
 IsFirst f n r = MatchResult r (λ _. NoneOf f n) (FirstOf f n)
 
-one_more : (f : ℕ → Verdict) (n : ℕ) (r q : Verdict) → f n ≡ q → IsFirst f n r → IsFirst f (suc n) (and_then r q)
+one_more : (f : ℕ → Verdict) (n : ℕ) (r q : Verdict) → f n ≡ q → IsFirst f n r → IsFirst f (suc n) (result_and r q)
 one_more f n (Ok _) (Ok _) e h = λ k l. elim (cases_order k n)
     [ inl p ↦ rw p e | inr p ↦ elim p [ inl m ↦ h k m | inr m ↦ absurd (omega arith) ] ]
 one_more f n (Ok _) (Err x) e h = (n, omega arith, e, h)
@@ -92,13 +93,13 @@ earliest_answers check n q = nested check n q (each_of (λ i. each_of (check i) 
 pub each_passed : (f : ℕ → Verdict) (n k : ℕ) → each_of f n ≡ Ok tt → k < n → f k ≡ Ok tt
 each_passed f n k e l = none_at f n (each_of f n) e (is_first f n) k l
 
-pub and_then_left : (r q : Verdict) → and_then r q ≡ Ok tt → r ≡ Ok tt
-and_then_left (Ok _) q e = refl
-and_then_left (Err x) q e = e
+pub passed_left : (r q : Verdict) → result_and r q ≡ Ok tt → r ≡ Ok tt
+passed_left (Ok _) q e = refl
+passed_left (Err x) q e = e
 
-pub and_then_right : (r q : Verdict) → and_then r q ≡ Ok tt → q ≡ Ok tt
-and_then_right (Ok _) q e = e
-and_then_right (Err x) q e = cc
+pub passed_right : (r q : Verdict) → result_and r q ≡ Ok tt → q ≡ Ok tt
+passed_right (Ok _) q e = e
+passed_right (Err x) q e = cc
 
 -- a check that passed had its test unmet
 pub unrefused : (b : Bool) (e : Fault) → refuse_if b e ≡ Ok tt → b ≡ false

@@ -8,7 +8,7 @@ use Rattle.forms.specs.Bytes.{byte}
 use Rattle.forms.specs.Checks.{each_of}
 use Rattle.forms.specs.Figures.{GroupFigures, RateFigures}
 use Rattle.forms.specs.Openings.{OpeningFormed, sizes_check, rows_check, groups_told, rows_told, group_place, group_at, row_at, lawful_group, lawful_row, no_fall, group_check, row_check, PowersWithin, PlantsMetered, LawfulTerms, terms_of}
-use Rattle.forms.proofs.Firsts.{each_passed, and_then_left, and_then_right, allowed}
+use Rattle.forms.proofs.Firsts.{each_passed, passed_left, passed_right, allowed}
 
 pub opening_formed : (s : List ℕ) → sizes_check s ≡ Ok tt → OpeningFormed s
 opening_formed s e = record {
@@ -49,12 +49,12 @@ module _ (s : List ℕ) (passed : rows_check s ≡ Ok tt) where
   group_lawful : (a : ℕ) → a < groups_told s → lawful_group (byte s (group_place a)) (group_at s a) ≡ true
   group_lawful a h =
       allowed (lawful_group (byte s (group_place a)) (group_at s a)) _
-      (each_passed (group_check s) (groups_told s) a (and_then_left (each_of (group_check s) (groups_told s)) _ passed) h)
+      (each_passed (group_check s) (groups_told s) a (passed_left (each_of (group_check s) (groups_told s)) _ passed) h)
 
   row_lawful : (r : ℕ) → r < rows_told s → lawful_row s (groups_told s) r ≡ true
   row_lawful r h =
       allowed (lawful_row s (groups_told s) r) _
-      (each_passed (row_check s (groups_told s)) (rows_told s) r (and_then_right (each_of (group_check s) (groups_told s)) _ passed) h)
+      (each_passed (row_check s (groups_told s)) (rows_told s) r (passed_right (each_of (group_check s) (groups_told s)) _ passed) h)
 
   powers_at : (a : ℕ) → a < groups_told s → PowersWithin (group_at s a)
   powers_at a h =

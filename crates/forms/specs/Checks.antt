@@ -1,5 +1,6 @@
 -- Checks one after another: the first fault answers.
 use Rattle.std.specs.Prelude.{◌≡◌, ℕ, zero, suc, ◌<◌, Bool, cond, Ok, Err, Result}
+use Rattle.std.specs.Result.{result_and}
 use Rattle.forms.specs.declared.fault.Fault.{Fault}
 
 -- nothing to object to, or a fault
@@ -11,10 +12,6 @@ abbrev pub verdict : {T : Type 0} → Result T Fault → Verdict
 verdict (Ok _) = Ok tt
 verdict (Err e) = Err e
 
-abbrev pub and_then : Verdict → Verdict → Verdict
-and_then (Ok _) r = r
-and_then (Err e) r = Err e
-
 -- the fault where the test is met
 abbrev pub refuse_if : Bool → Fault → Verdict
 refuse_if b e = cond b (Err e) (Ok tt)
@@ -22,7 +19,7 @@ refuse_if b e = cond b (Err e) (Ok tt)
 -- the checks of 0, 1, .., n - 1 in this order
 unfoldable pub each_of : (ℕ → Verdict) → ℕ → Verdict
 each_of f zero = Ok tt
-each_of f (suc n) = and_then (each_of f n) (f n)
+each_of f (suc n) = result_and (each_of f n) (f n)
 
 -- r is what checks of 0, 1, .., n - 1 answer in this order, where P says what the check of each may answer.
 abbrev pub Answers : (ℕ → Verdict → Type 0) → ℕ → Verdict → Type 0

@@ -1,10 +1,11 @@
 -- The closing form of a day with g groups and q quarter hours: a byte g, a byte q, then g + 2 series of q signed numbers,
 -- namely the feed-ins of each group, the long prices and the short prices. Series and quarter hours count from 0 here.
 use Rattle.std.specs.Prelude.{◌≡◌, ℕ, ◌+◌, ◌*◌, cond, not, ◌&&◌, List, length, ℤ, ◌==◌, nat_lt, unsigned_abs}
+use Rattle.std.specs.Result.{result_and}
 use Rattle.forms.specs.declared.fault.Fault.TheVariants.{ShortForm, WrongSize, WrongLength, OutOfRange}
 use Rattle.forms.specs.Bounds.{power_bound, price_bound}
 use Rattle.forms.specs.Bytes.{byte, signed32}
-use Rattle.forms.specs.Checks.{Verdict, and_then, refuse_if, each_of}
+use Rattle.forms.specs.Checks.{Verdict, refuse_if, each_of}
 
 -- the bytes of the header and of a number
 abbrev pub closing_header : ℕ
@@ -23,8 +24,8 @@ closing_length g q = closing_header + value_bytes * (q * series_count g)
 -- the header is there, its sizes are those of the book and the day, and the length is what they give
 abbrev pub closing_sizes : ℕ → ℕ → List ℕ → Verdict
 closing_sizes g q s =
-    and_then (refuse_if (nat_lt (length s) closing_header) ShortForm)
-    (and_then (refuse_if (not (byte s 0 == g && byte s 1 == q)) WrongSize)
+    result_and (refuse_if (nat_lt (length s) closing_header) ShortForm)
+    (result_and (refuse_if (not (byte s 0 == g && byte s 1 == q)) WrongSize)
     (refuse_if (not (length s == closing_length g q)) WrongLength))
 
 -- what a form with lawful sizes has

@@ -1,11 +1,12 @@
 -- The opening form: a byte g (groups), a byte k (tariff rows), g group rows, k tariff rows. Groups and rows count from 0 here.
 use Rattle.std.specs.Prelude.{◌≡◌, ℕ, ◌+◌, ◌-◌, ◌*◌, ◌≤◌, Bool, not, ◌&&◌, ◌||◌, List, map, length, take, ◌==◌, nat_le, nat_lt}
+use Rattle.std.specs.Result.{result_and}
 use Rattle.std.specs.List.{range_with_len}
 use Rattle.forms.specs.declared.terms.Opening.{Opening}
 use Rattle.forms.specs.declared.fault.Fault.TheVariants.{ShortForm, WrongSize, WrongLength, UnlawfulGroup, UnlawfulTariff}
 use Rattle.forms.specs.Bounds.{least_groups, most_groups, least_rows, most_rows, power_bound, fee_bound, rate_bound}
 use Rattle.forms.specs.Bytes.{byte, be32}
-use Rattle.forms.specs.Checks.{Verdict, and_then, refuse_if, each_of}
+use Rattle.forms.specs.Checks.{Verdict, refuse_if, each_of}
 use Rattle.forms.specs.Figures.{GroupFigures, RateFigures, Terms}
 use Rattle.forms.specs.Lawful.{terms_from}
 pub use Rattle.forms.specs.Lawful.{PowersWithin, PlantsMetered, LawfulTerms}
@@ -40,8 +41,8 @@ opening_length g k = opening_header + group_bytes * g + row_bytes * k
 -- the header is there, its sizes are such as a form may have, and the length is what they give
 abbrev pub sizes_check : List ℕ → Verdict
 sizes_check s =
-    and_then (refuse_if (nat_lt (length s) opening_header) ShortForm)
-    (and_then (refuse_if (not (groups_may_be (groups_told s) && rows_may_be (rows_told s))) WrongSize)
+    result_and (refuse_if (nat_lt (length s) opening_header) ShortForm)
+    (result_and (refuse_if (not (groups_may_be (groups_told s) && rows_may_be (rows_told s))) WrongSize)
     (refuse_if (not (length s == opening_length (groups_told s) (rows_told s))) WrongLength))
 
 -- what a form with lawful sizes has
@@ -106,7 +107,7 @@ row_check s g r = refuse_if (not (lawful_row s g r)) (UnlawfulTariff (g + r + 1)
 
 -- every group row, then every tariff row
 abbrev pub rows_check : List ℕ → Verdict
-rows_check s = and_then (each_of (group_check s) (groups_told s)) (each_of (row_check s (groups_told s)) (rows_told s))
+rows_check s = result_and (each_of (group_check s) (groups_told s)) (each_of (row_check s (groups_told s)) (rows_told s))
 
 -- what the bytes of an opening form say, as values
 unfoldable pub terms_of : List ℕ → Terms

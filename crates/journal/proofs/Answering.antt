@@ -7,7 +7,7 @@ use Rattle.std.proofs.lemmas.Bool.{leb-true, and_parts}
 use Rattle.forms.specs.declared.fault.Fault.TheVariants.{WrongGroup, WrongDay, OutOfRange}
 use Rattle.forms.specs.Calendar.{quarters}
 use Rattle.forms.specs.Checks.{refuse_if}
-use Rattle.forms.proofs.Firsts.{and_then_left, and_then_right, allowed}
+use Rattle.forms.proofs.Firsts.{passed_left, passed_right, allowed}
 use Rattle.message.specs.Form.{said}
 use Rattle.message.specs.Places.{first_of, stated}
 use Rattle.stage.specs.Marked.{on_day}
@@ -62,9 +62,9 @@ module _ (m : Meaning) (s : State) (w : List ℕ) (j : Journal) (k : Keeps m j s
       let a = group - 1 in
       let t = quarter - 1 in
       let g = size s in
-      let rest = and_then_right (day_check s w) _ h in
-      let there = group_there group (and_then_left (group_check s group) _ rest) in
-      let same = k.agree t (quarter_there quarter (and_then_right (group_check s group) _ rest)) in
+      let rest = passed_right (day_check s w) _ h in
+      let there = group_there group (passed_left (group_check s group) _ rest) in
+      let same = k.agree t (quarter_there quarter (passed_right (group_check s group) _ rest)) in
       let x = stated_open_same g (statements s w) (says j) (figures s a) t a same there in
       let y = confirmed_open_same g (statements s w) (says j) (figures s a) t a same there in
       let z = net_purchases_same g (statements s w) (says j) t a same there in
@@ -74,12 +74,12 @@ module _ (m : Meaning) (s : State) (w : List ℕ) (j : Journal) (k : Keeps m j s
       → confirmed (statements s w) (quarter - 1) (from - 1) (to - 1) ≡ confirmed (says j) (quarter - 1) (from - 1) (to - 1)
   trade_right from to quarter h =
       let g = size s in
-      let rest = and_then_right (day_check s w) _ h in
+      let rest = passed_right (day_check s w) _ h in
       let groups = refuse_if (not (one_of g from && one_of g to && not (eqb from to))) WrongGroup in
-      let named = (and_parts (one_of g from && one_of g to) (not (eqb from to)) (allowed (one_of g from && one_of g to && not (eqb from to)) WrongGroup (and_then_left groups _ rest))).0 in
+      let named = (and_parts (one_of g from && one_of g to) (not (eqb from to)) (allowed (one_of g from && one_of g to && not (eqb from to)) WrongGroup (passed_left groups _ rest))).0 in
       let both = and_parts (one_of g from) (one_of g to) named in
       confirmed_same g (statements s w) (says j) (quarter - 1) (from - 1) (to - 1)
-      (k.agree (quarter - 1) (quarter_there quarter (and_then_right groups _ rest)))
+      (k.agree (quarter - 1) (quarter_there quarter (passed_right groups _ rest)))
       (one_below g from both.0).1 (one_below g to both.1).1
 
   -- the cut-offs by the state are those of the journal
@@ -99,9 +99,9 @@ module _ (m : Meaning) (s : State) (w : List ℕ) (j : Journal) (k : Keeps m j s
       → ◌≡◌ {A = Bool × ℕ} (on_day (kept s (group - 1)).marks day, m (take day (kept s (group - 1)).marks)) (mark s.terms j (group - 1) day, stage m s.terms j (group - 1) day)
   standing_right group day h =
       let a = group - 1 in
-      let there = group_there group (and_then_left (group_check s group) _ h) in
+      let there = group_there group (passed_left (group_check s group) _ h) in
       let c = state-kept.cut_offs s.closed s.phase in
-      let d = one_below c day (allowed (one_of c day) WrongDay (and_then_right (group_check s group) _ h)) in
+      let d = one_below c day (allowed (one_of c day) WrongDay (passed_right (group_check s group) _ h)) in
       let below : day ≤ cut_offs j = omega (arith, passed, d.0, d.1) in
       let xs = k.marks a there in
       let x = ap (λ ys. on_day ys day) xs ∙ on_day_mark s.terms j a (cut_offs j) day d.0 below in

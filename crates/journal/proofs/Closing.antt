@@ -13,7 +13,8 @@ use Rattle.settlement.proofs.Agreement.{day_cost_same}
 use Rattle.settlement.proofs.Places.{on_sheet_unsent}
 use Rattle.book.specs.Closes.{balance_today, closed_group, day_closed}
 use Rattle.book.specs.Rows.{Row}
-use Rattle.book.specs.States.{State, all_flags, nothing_kept, size, kept, day_quarters, statements}
+use Rattle.book.specs.States.{State, nothing_kept, size, kept, day_quarters, statements}
+use Rattle.book.specs.Sheets.{all_flags}
 use Rattle.journal.specs.Journals.{Entry, close, Journal, advanced_here, closed_here, advances, closes, cut_offs, today, before, says, last_message}
 use Rattle.journal.specs.Reckoned.{Meaning, balance_on, balance}
 use Rattle.journal.proofs.Advancing.{ahead_not_after}

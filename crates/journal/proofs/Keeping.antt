@@ -9,7 +9,8 @@ use Rattle.settlement.specs.Sheets.{slots, sheet_size}
 use Rattle.settlement.specs.Sums.{sumℕ, sumℤ}
 use Rattle.settlement.proofs.Agreement.{Agree}
 use Rattle.settlement.proofs.Sums.{sumℕ-same, sumℕ-more, sumℤ-same, sumℤ-more}
-use Rattle.book.specs.States.{State, all_flags, size, kept, statements}
+use Rattle.book.specs.States.{State, size, kept, statements}
+use Rattle.book.specs.Sheets.{all_flags}
 use Rattle.journal.specs.Journals.{Entry, Journal, advances, closes, cut_offs, today, says}
 use Rattle.journal.specs.Reckoned.{Meaning, mark, marks_to, penalty_on, penalties, balance_on, balance}
 use Rattle.journal.proofs.Earlier.{marks_kept, penalty_kept, balance_kept}

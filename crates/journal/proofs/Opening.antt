@@ -6,7 +6,7 @@ use Rattle.forms.specs.declared.fault.Fault.TheVariants.{WrongBuffer}
 use Rattle.forms.specs.Checks.{refuse_if}
 use Rattle.forms.specs.Openings.{sizes_check, groups_told, terms_of, LawfulTerms}
 use Rattle.forms.specs.Slots.{Slot}
-use Rattle.forms.proofs.Firsts.{and_then_left, and_then_right, allowed}
+use Rattle.forms.proofs.Firsts.{passed_left, passed_right, allowed}
 use Rattle.forms.proofs.TermLaws.{length_groups, lawful_terms}
 use Rattle.settlement.specs.Laws.{NeverFalls}
 use Rattle.settlement.specs.Sheets.{slot_place, sheet_size}
@@ -16,7 +16,8 @@ use Rattle.settlement.proofs.Sums.{sumℕ-none, sumℤ-none}
 use Rattle.book.specs.Queries.{if_passed}
 use Rattle.book.specs.Opens.{new_book, open_check, opened_by}
 use Rattle.book.specs.Sheets.{sheet_fits, all_powers}
-use Rattle.book.specs.States.{State, all_flags, nothing_kept, kept, statements}
+use Rattle.book.specs.States.{State, nothing_kept, kept, statements}
+use Rattle.book.specs.Sheets.{all_flags}
 use Rattle.book.proofs.Days.{flags_enough}
 use Rattle.journal.specs.Journals.{advances, closes, cut_offs, how_many, says, last_message}
 use Rattle.journal.specs.Reckoned.{Meaning, marks_to, penalty_on, penalties, balance_on, balance}
@@ -41,10 +42,10 @@ module _ (m : Meaning) (form given : List ℕ) (s : State) (w : List ℕ) (h : o
   sheet_new = sym (ap (λ v. if_passed v (replicate (length given) 0) given) checked) ∙ ap (λ o. o.2) h
 
   sized : sizes_check form ≡ Ok tt
-  sized = and_then_left (sizes_check form) _ checked
+  sized = passed_left (sizes_check form) _ checked
 
   pub lawful : LawfulTerms (terms_of form)
-  lawful = lawful_terms form sized (and_then_right (refuse_if (not (sheet_fits (groups_told form) given)) WrongBuffer) _ (and_then_right (sizes_check form) _ checked))
+  lawful = lawful_terms form sized (passed_right (refuse_if (not (sheet_fits (groups_told form) given)) WrongBuffer) _ (passed_right (sizes_check form) _ checked))
 
   pub never_falls : NeverFalls (terms_of form).tariff
   never_falls k l = (lawful.fees_rise k (k + 1) _ (omega arith) l, lawful.rates_rise k (k + 1) _ (omega arith) l)
@@ -53,7 +54,7 @@ module _ (m : Meaning) (form given : List ℕ) (s : State) (w : List ℕ) (h : o
   fitted =
       eqb-true (length given) (sheet_size (groups_told form))
       (and_parts (eqb (length given) (sheet_size (groups_told form))) (all_powers given)
-      (allowed (sheet_fits (groups_told form) given) WrongBuffer (and_then_left (refuse_if (not (sheet_fits (groups_told form) given)) WrongBuffer) _ (and_then_right (sizes_check form) _ checked)))
+      (allowed (sheet_fits (groups_told form) given) WrongBuffer (passed_left (refuse_if (not (sheet_fits (groups_told form) given)) WrongBuffer) _ (passed_right (sizes_check form) _ checked)))
       ).0
 
   kept_new : (a : ℕ) → a < length (terms_of form).groups → kept (new_book (terms_of form)) a ≡ nothing_kept

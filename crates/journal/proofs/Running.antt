@@ -7,7 +7,7 @@ use Rattle.forms.specs.Closings.{closing_sizes}
 use Rattle.forms.specs.Figures.{Terms}
 use Rattle.forms.specs.Openings.{terms_of}
 use Rattle.message.specs.Form.{said}
-use Rattle.forms.proofs.Firsts.{and_then_left, and_then_right, unrefused, allowed}
+use Rattle.forms.proofs.Firsts.{passed_left, passed_right, unrefused, allowed}
 use Rattle.settlement.specs.declared.phase.Phase.{Phase}
 use Rattle.settlement.specs.declared.phase.Phase.TheVariants.{Ahead, Near, After}
 use Rattle.book.specs.Closes.{Lent, close_check, balance_today, day_closed, day_rows}
@@ -68,7 +68,7 @@ module _ (m : Meaning) (terms : Terms) (j : Journal) (s : State) (w : List ℕ) 
   came_after rows form passed =
       after_only s.phase
       (allowed (is_after s.phase) WrongPhase
-      (and_then_left (refuse_if (not (is_after s.phase)) WrongPhase) _ (and_then_right (closing_sizes (size s) (day_quarters s) form) _ passed)))
+      (passed_left (refuse_if (not (is_after s.phase)) WrongPhase) _ (passed_right (closing_sizes (size s) (day_quarters s) form) _ passed)))
 
   step : (e : Entry) (after : State) (left : List ℕ) → Stepped m e s w after left → Holds m terms (e ∷ j) after left
   step (submit form given (Ok x)) after left st =
@@ -84,8 +84,8 @@ module _ (m : Meaning) (terms : Terms) (j : Journal) (s : State) (w : List ℕ) 
       (st.2 ∙ ap (λ v. if_passed v (state_with s ((said form).group - 1) (said form).version form) s) refused) st.3
   step (advance given (Ok x)) after left st =
       let passed : advance_check s w ≡ Ok tt = sym (st.1 ∙ ap (λ g. advance_check s g) st.0) in
-      let phase-open = unrefused (is_after s.phase) WrongPhase (and_then_left (refuse_if (is_after s.phase) WrongPhase) _ passed) in
-      let lasts = day_left s w (and_then_right (refuse_if (is_after s.phase) WrongPhase) _ passed) in
+      let phase-open = unrefused (is_after s.phase) WrongPhase (passed_left (refuse_if (is_after s.phase) WrongPhase) _ passed) in
+      let lasts = day_left s w (passed_right (refuse_if (is_after s.phase) WrongPhase) _ passed) in
       holds_at m terms _ _ after _ left
       (st.2 ∙ ap (λ g. (advanced m s g).1) st.0 ∙ ap (λ v. if_passed v (next_phase m s w s.phase) s) passed)
       st.3

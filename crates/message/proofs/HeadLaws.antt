@@ -5,7 +5,7 @@ use Rattle.std.proofs.lemmas.Bool.Decides.{nat_tests}
 use Rattle.forms.specs.Checks.{each_of}
 use Rattle.forms.specs.Slots.{kind_of, counter_of}
 use Rattle.forms.specs.declared.fault.Fault.TheVariants.{UnlawfulHead, RepeatedHead}
-use Rattle.forms.proofs.Firsts.{each_passed, and_then_left, and_then_right, unrefused, allowed}
+use Rattle.forms.proofs.Firsts.{each_passed, passed_left, passed_right, unrefused, allowed}
 use Rattle.message.specs.Form.{series_count, kind_at, counter_at, value_at}
 use Rattle.message.specs.Told.{slot_under, slot_at}
 use Rattle.message.specs.Places.{first_of, head_is, place_under, place_of, sent_in, stated}
@@ -39,7 +39,7 @@ module _ (g own : ℕ) (s : List ℕ) (passed : heads_check g own s ≡ Ok tt) w
   -- each head is that of a slot that the group may send
   pub head_lawful : (i : ℕ) → i < series_count s → lawful_head g own (kind_at s i) (counter_at s i) ≡ true
   head_lawful i l =
-      let p = and_then_left (each_of (head_check g own s) (series_count s)) (each_of (once_check s) (series_count s)) passed in
+      let p = passed_left (each_of (head_check g own s) (series_count s)) (each_of (once_check s) (series_count s)) passed in
       let h = each_passed (head_check g own s) (series_count s) i p l in
       allowed (lawful_head g own (kind_at s i) (counter_at s i)) (UnlawfulHead (i + 1)) h
 
@@ -49,7 +49,7 @@ module _ (g own : ℕ) (s : List ℕ) (passed : heads_check g own s ≡ Ok tt) w
   -- no series before i has its head
   none_before : (i : ℕ) → i < series_count s → first_of (head_is s (kind_at s i) (counter_at s i)) i ≡ None
   none_before i l =
-      let p = and_then_right (each_of (head_check g own s) (series_count s)) (each_of (once_check s) (series_count s)) passed in
+      let p = passed_right (each_of (head_check g own s) (series_count s)) (each_of (once_check s) (series_count s)) passed in
       none_from (first_of (head_is s (kind_at s i) (counter_at s i)) i) (unrefused (repeats s i) (RepeatedHead (i + 1)) (each_passed (once_check s) (series_count s) i p l))
 
   place_under_head : (i : ℕ) → i < series_count s → place_under s (kind_at s i) (counter_at s i) ≡ Some i

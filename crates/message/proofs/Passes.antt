@@ -1,9 +1,10 @@
 -- Checks that have nothing to look for.
 use Rattle.std.proofs.Common.{◌≡◌, ℕ, suc, ◌+◌, ◌<◌, Bool, true, false, not, ◌&&◌, ◌||◌, eqb, ltb, leb, List, [], ◌∷◌, length, get_or, is_ok, Some, None, Ok, Err, sym, refl, ap, ◌∙◌, add-one, arith}
+use Rattle.std.specs.Result.{result_and}
 use Rattle.std.proofs.lemmas.Bool.{and_left, and_right, cond-false}
 use Rattle.std.proofs.lemmas.Bool.Decides.{nat_tests}
 use Rattle.forms.specs.Bytes.{be32}
-use Rattle.forms.specs.Checks.{Verdict, and_then, refuse_if, each_of}
+use Rattle.forms.specs.Checks.{Verdict, refuse_if, each_of}
 use Rattle.forms.specs.declared.fault.Fault.{Fault}
 use Rattle.forms.proofs.Firsts.{each_none, each_all}
 use Rattle.forms.specs.Bounds.{power_bound}
@@ -17,7 +18,7 @@ use Rattle.message.proofs.Stated.{value_found, value_missing}
 pub ok_none : (f : ℕ → Verdict) → true ≡ is_ok (each_of f 0)
 ok_none f = ap is_ok (sym (each_none f))
 
-both_ok : (r q : Verdict) → is_ok (and_then r q) ≡ (is_ok r && is_ok q)
+both_ok : (r q : Verdict) → is_ok (result_and r q) ≡ (is_ok r && is_ok q)
 both_ok (Ok _) q = refl
 both_ok (Err e) q = refl
 

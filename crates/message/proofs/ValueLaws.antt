@@ -1,10 +1,11 @@
 -- What follows once the values of a message have passed their checks.
 use Rattle.std.proofs.Common.{◌≡◌, ℕ, ◌+◌, ◌<◌, ◌≤◌, Bool, true, false, ◌⊎◌, List, Some, None, Ok, Option, refl, ap, inl, arith}
+use Rattle.std.specs.Result.{result_and}
 use Rattle.std.proofs.lemmas.Bool.Decides.{nat_tests}
 use Rattle.forms.specs.Bounds.{power_bound}
-use Rattle.forms.specs.Checks.{Verdict, and_then}
+use Rattle.forms.specs.Checks.{Verdict}
 use Rattle.forms.specs.Slots.{Slot, out_to, in_from, kind_of, counter_of}
-use Rattle.forms.proofs.Firsts.{each_passed, and_then_left, and_then_right}
+use Rattle.forms.proofs.Firsts.{each_passed, passed_left, passed_right}
 use Rattle.message.specs.Form.{series_count, value_at}
 use Rattle.message.specs.Told.{is_forecast}
 use Rattle.message.specs.Places.{place_under, place_of, value_under, stated}
@@ -19,7 +20,7 @@ module _ (q : ℕ) (metered : Bool) (s : List ℕ) (passed : values_check q mete
   -- no value is above the bound
   pub value_bounded : (i t : ℕ) → i < series_count s → t < q → value_at q s i t ≤ power_bound
   value_bounded i t l m =
-      let p = and_then_left (in_message q s (range_check q s)) (and_then (in_message q s (forecast_check q metered s)) (in_message q s (opposed_check q s))) passed in
+      let p = passed_left (in_message q s (range_check q s)) (result_and (in_message q s (forecast_check q metered s)) (in_message q s (opposed_check q s))) passed in
       let h = in_message_passed q s (range_check q s) i t p l m in
       grind (arith, nat_tests)
 
@@ -40,8 +41,8 @@ module _ (q : ℕ) (metered : Bool) (s : List ℕ) (passed : values_check q mete
   forecast_zero_at n kind counter t (Some i) f e m =
       let u = found_under s kind counter i e in
       let v = value_found q s kind counter i t e in
-      let p = and_then_right (in_message q s (range_check q s)) (and_then (in_message q s (forecast_check q metered s)) (in_message q s (opposed_check q s))) passed in
-      let r = and_then_left (in_message q s (forecast_check q metered s)) (in_message q s (opposed_check q s)) p in
+      let p = passed_right (in_message q s (range_check q s)) (result_and (in_message q s (forecast_check q metered s)) (in_message q s (opposed_check q s))) passed in
+      let r = passed_left (in_message q s (forecast_check q metered s)) (in_message q s (opposed_check q s)) p in
       let h = in_message_passed q s (forecast_check q metered s) i t r u.there m in
       let a = ap is_forecast u.kind_is in
       grind (arith, nat_tests)
@@ -55,8 +56,8 @@ module _ (q : ℕ) (metered : Bool) (s : List ℕ) (passed : values_check q mete
   opposed_zero_at counter t (Some i) e m =
       let u = found_under s 1 counter i e in
       let v = value_found q s 1 counter i t e in
-      let p = and_then_right (in_message q s (range_check q s)) (and_then (in_message q s (forecast_check q metered s)) (in_message q s (opposed_check q s))) passed in
-      let r = and_then_right (in_message q s (forecast_check q metered s)) (in_message q s (opposed_check q s)) p in
+      let p = passed_right (in_message q s (range_check q s)) (result_and (in_message q s (forecast_check q metered s)) (in_message q s (opposed_check q s))) passed in
+      let r = passed_right (in_message q s (forecast_check q metered s)) (in_message q s (opposed_check q s)) p in
       let h = in_message_passed q s (opposed_check q s) i t r u.there m in
       let a = ap (λ c. value_under q s 2 c t) u.counter_is in
       grind (arith, nat_tests)

@@ -1,6 +1,7 @@
 -- Which heads a message may have. Groups count from 0 here, the counters of heads from 1.
 use Rattle.std.specs.Prelude.{ℕ, ◌+◌, ◌<◌, Bool, not, ◌&&◌, ◌||◌, List, is_some, ◌==◌, ◌≢◌, nat_le}
-use Rattle.forms.specs.Checks.{Verdict, and_then, refuse_if, each_of}
+use Rattle.std.specs.Result.{result_and}
+use Rattle.forms.specs.Checks.{Verdict, refuse_if, each_of}
 use Rattle.forms.specs.declared.fault.Fault.TheVariants.{UnlawfulHead, RepeatedHead}
 use Rattle.forms.specs.Slots.{Slot, out_to, in_from, cons, prod, pump}
 use Rattle.message.specs.Form.{series_count, kind_at, counter_at}
@@ -36,4 +37,4 @@ once_check s i = refuse_if (repeats s i) (RepeatedHead (i + 1))
 
 -- every head is lawful, and then none stands twice
 abbrev pub heads_check : ℕ → ℕ → List ℕ → Verdict
-heads_check g own s = and_then (each_of (head_check g own s) (series_count s)) (each_of (once_check s) (series_count s))
+heads_check g own s = result_and (each_of (head_check g own s) (series_count s)) (each_of (once_check s) (series_count s))

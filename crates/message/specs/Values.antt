@@ -1,7 +1,8 @@
 -- Which values a message may have. Values are powers in kW.
 use Rattle.std.specs.Prelude.{ℕ, ◌+◌, Bool, not, ◌&&◌, List, ◌==◌, nat_lt}
+use Rattle.std.specs.Result.{result_and}
 use Rattle.forms.specs.Bounds.{power_bound}
-use Rattle.forms.specs.Checks.{Verdict, and_then, refuse_if, each_of}
+use Rattle.forms.specs.Checks.{Verdict, refuse_if, each_of}
 use Rattle.forms.specs.declared.fault.Fault.TheVariants.{OutOfRange, UnmeteredForecast, OpposedTrades}
 use Rattle.message.specs.Form.{series_count, kind_at, counter_at, value_at}
 use Rattle.message.specs.Told.{is_forecast}
@@ -33,5 +34,5 @@ opposed_check q s i t =
 -- these three, each over the whole message
 abbrev pub values_check : ℕ → Bool → List ℕ → Verdict
 values_check q metered s =
-    and_then (in_message q s (range_check q s))
-    (and_then (in_message q s (forecast_check q metered s)) (in_message q s (opposed_check q s)))
+    result_and (in_message q s (range_check q s))
+    (result_and (in_message q s (forecast_check q metered s)) (in_message q s (opposed_check q s)))

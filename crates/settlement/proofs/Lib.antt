@@ -5,4 +5,4 @@ pub mod Trading
 pub mod Excesses
 pub mod Agreement
 pub mod Laws
-pub mod BenchSettlement
+pub mod WorkedAmounts

@@ -5,4 +5,4 @@ pub mod Days
 pub mod Positions
 pub mod Amounts
 pub mod Laws
-pub mod BenchSettlement
+pub mod WorkedAmounts

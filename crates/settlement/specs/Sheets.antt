@@ -1,6 +1,7 @@
 -- The sheet of words. Each group in order owns 2g + 3 slots: out to each group, in from each group, CONS, PROD, PUMP.
 use Rattle.std.specs.Prelude.{◌≡◌, ℕ, ◌+◌, ◌-◌, ◌*◌, ◌<◌, ◌≤◌, Bool, false, cond, List, length, Some, None, Option, ◌==◌, nat_lt, slice_index, slice_index_or}
 use Rattle.std.specs.Option.{unwrap_or}
+use Rattle.forms.specs.Bounds.{most_groups}
 use Rattle.forms.specs.Slots.{Slot, out_to, in_from, cons, prod, pump}
 
 -- words of a slot, one for each quarter hour of the longest day
@@ -58,6 +59,6 @@ on_sheet g sent words a s t = unwrap_or (held sent words (slot_place g a s) t) 0
 
 -- a sheet and its presence flags for g groups
 pub record SheetOf (g : ℕ) (sent : List Bool) (words : List ℕ) : Type 0 where
-  pub few : g ≤ 16
+  pub few : g ≤ most_groups
   pub flags : g * slots g ≤ length sent
   pub room : length words ≡ sheet_size g

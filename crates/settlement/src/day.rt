@@ -1,5 +1,6 @@
 //! A group's trades of a whole day at once. Quarter hours count from 0.
 ghost use Rattle.std.specs.Prelude.{◌≡◌, ℕ, ◌+◌, ◌*◌, ◌^◌, ◌<◌, ◌≤◌, length, pos, ◌-ℤ◌, slice_index, unsigned_abs};
+ghost use Rattle.forms.specs.Bounds.{most_groups};
 ghost use Rattle.forms.specs.Slots.{slot_of, cons};
 ghost use Rattle.settlement.specs.Days.{day_net, HasRoom, Grows, Adds, with_others};
 ghost use Rattle.settlement.specs.Positions.{confirmed, net_purchases, stated_with};
@@ -40,7 +41,7 @@ impl DayTrades {
         own: usize,
         add: F,
     ) -> DayTrades
-        requires few { groups ≤ 16 }
+        requires few { groups ≤ most_groups }
         requires called { (b : ℕ) (x y : _) → b < groups → HasRoom x.now → HasRoom y.now → F.pre add b x y }
         requires low { (b : ℕ) (x y u v : _) → b < groups → F.post add b x y tt u v → Grows x.now u.now × Grows y.now v.now }
         ensures { (q : ℕ) (i o : ℕ → ℕ → ℕ) → ((b : ℕ) (x y u v : _) → b < groups → F.post add b x y tt u v → Adds q (i b) x.now u.now × Adds q (o b) y.now v.now)

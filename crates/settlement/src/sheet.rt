@@ -2,6 +2,7 @@
 //! slots and quarter hours it is given are there, as an index is asked to be in range: types for such
 //! numbers would be no plainer.
 ghost use Rattle.std.specs.Prelude.{◌≡◌, ◌*◌, ◌<◌, ◌≤◌};
+ghost use Rattle.forms.specs.Bounds.{most_groups};
 ghost use Rattle.forms.specs.Slots.{slot_of};
 ghost use Rattle.settlement.specs.Sheets.{words_per_slot, slots, sheet_size, slot_number, slot_place, Within, SlotsApart, SheetOf};
 
@@ -12,7 +13,7 @@ pub const WORDS_PER_SLOT: usize = 96;
 
 /// How many slots each of `groups` groups owns.
 pub fn slots_per_group(groups: usize) -> usize
-    requires { groups ≤ 16 }
+    requires { groups ≤ most_groups }
     ensures { result ≡ slots groups }
 {
     2 * groups + 3
@@ -20,7 +21,7 @@ pub fn slots_per_group(groups: usize) -> usize
 
 /// How many words the sheet of `groups` groups has.
 pub fn sheet_size(groups: usize) -> usize
-    requires { groups ≤ 16 }
+    requires { groups ≤ most_groups }
     ensures { result ≡ sheet_size groups }
 {
     groups * slots_per_group(groups) * WORDS_PER_SLOT
@@ -28,7 +29,7 @@ pub fn sheet_size(groups: usize) -> usize
 
 // The place of a slot among its group's.
 fn slot_number(groups: usize, slot: Slot) -> usize
-    requires { (groups ≤ 16) × (Within groups (slot_of slot)) }
+    requires { (groups ≤ most_groups) × (Within groups (slot_of slot)) }
     ensures value { result ≡ slot_number groups (slot_of slot) }
     ensures bound { result < slots groups }
 {
@@ -43,7 +44,7 @@ fn slot_number(groups: usize, slot: Slot) -> usize
 
 /// The place of a group's slot among all slots of the sheet.
 pub fn slot_place(groups: usize, group: usize, slot: Slot) -> usize
-    requires { (groups ≤ 16) × ((group < groups) × (Within groups (slot_of slot))) }
+    requires { (groups ≤ most_groups) × ((group < groups) × (Within groups (slot_of slot))) }
     ensures value { result ≡ slot_place groups group (slot_of slot) }
     ensures bound { result < groups * slots groups }
 {

@@ -1,3 +1,3 @@
-pub mod BenchStage
+pub mod WorkedStages
 mod Flags
 mod Inclusive

@@ -1,5 +1,5 @@
 pub mod Asked
-pub mod BenchStage
+pub mod WorkedStages
 pub mod Marked
 pub mod Rules
 pub mod Gaps

@@ -1,5 +1,5 @@
-use Rattle.settlement.proofs.BenchSettlement as amounts
-use Rattle.stage.proofs.BenchStage as stages
+use Rattle.settlement.proofs.WorkedAmounts as amounts
+use Rattle.stage.proofs.WorkedStages as stages
 use Rattle.book.proofs.worked_figures.worked_figures.Goals as goal
 
 pub returns : goal.returns

@@ -3,7 +3,7 @@ use Rattle.std.proofs.Common.{refl}
 use Rattle.settlement.specs.Sums.{sumℤ}
 use Rattle.settlement.specs.Positions.{confirmed, confirmed_with}
 use Rattle.settlement.specs.Amounts.{day_cost}
-use Rattle.settlement.specs.BenchSettlement.{SettlementFigures}
+use Rattle.settlement.specs.WorkedAmounts.{SettlementFigures}
 
 pub settlement_figures : SettlementFigures
 unfolding sumℤ confirmed confirmed_with day_cost
