@@ -97,6 +97,7 @@ impl<R: StageRule> Book<R> {
         open.ledger.position(sheet, group, quarter)
     }
 
+    // The numbers of a question come one by one: a struct for them would be made at each call.
     /// The confirmed trade from one group to another at a quarter hour.
     pub fn trade(&self, sheet: &[u32], from: u16, to: u16, quarter: u16) -> Result<u32, Fault>
         ensures { result ≡ asks_trade (held_in self.now.inner) sheet.now from to quarter }
@@ -125,19 +126,15 @@ impl<R: StageRule> Book<R> {
     pub fn groups(&self) -> u16
         ensures { result ≡ groups_in (held_in self.now.inner) }
     {
-        match &self.inner {
-            Some(open) => open.ledger.groups() as u16,
-            None => 0,
-        }
+        self.inner
+            .as_ref()
+            .map_or(0, |open| open.ledger.groups() as u16)
     }
 
     /// How many days are past their cut-off, 0 where no book is open.
     pub fn cut_offs(&self) -> u16
         ensures { result ≡ days_cut_in (held_in self.now.inner) }
     {
-        match &self.inner {
-            Some(open) => open.ledger.cut_offs(),
-            None => 0,
-        }
+        self.inner.as_ref().map_or(0, |open| open.ledger.cut_offs())
     }
 }

@@ -80,6 +80,7 @@ impl<R: StageRule> Opened<R> {
         ensures book { (result, state_of self.new.ledger) ≡ advanced (R.meaning self.old.rule) (state_of self.old.ledger) sheet.now }
         ensures rule { self.new.rule ≡ self.old.rule }
     {
+        // The phase is an enum; a table of functions would be no plainer than this match.
         self.ledger = match self.ledger.phase {
             Phase::Ahead => self.ledger.open_day(sheet)?.ledger.nearer(),
             Phase::Near => self.ledger.open_day(sheet)?.cut_off(&self.rule),

@@ -25,6 +25,8 @@ fn lay_series(message: &Message<'_>, i: u8, at: usize, sheet: &mut [u32])
 }
 
 impl Ledger {
+    // It writes the sheet, which an `OpenDay` only reads, so it asks for what such a type would hold. The
+    // flags are another list, written without the sheet: see `flags_after`.
     /// Writes each series of the message into its slot of the sender.
     pub(crate) fn lay(&self, message: &Message<'_>, own: usize, sheet: &mut [u32])
         requires read { Read (state_of self.now) own message.now.quarters message.now.bytes.now }

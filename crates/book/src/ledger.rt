@@ -5,6 +5,7 @@ ghost use Rattle.book.specs.Sheets.{all_flags};
 ghost use Rattle.book.specs.Kept.{cut_offs, days_in, penalties_in, balance_in, most_penalty, most_balance};
 
 use crate::group_account::GroupAccount;
+use forms::bounds::MOST_GROUPS;
 use forms::terms::Opening;
 use settlement::phase::Phase;
 
@@ -12,7 +13,7 @@ use settlement::phase::Phase;
 pub const FLAGS: usize = 560;
 
 /// The accounts of 16 groups.
-pub const ACCOUNTS: usize = 16;
+pub const ACCOUNTS: usize = MOST_GROUPS;
 
 /// The day and phase, the slots sent today, and what is kept for each group.
 /// Groups count from 0; the places of the arrays past the book's groups are not used.

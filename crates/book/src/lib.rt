@@ -1,4 +1,8 @@
 //! The book: days of one control area, one after another, for 2 to 16 balance groups.
+//!
+//! A function that is given the number of a group, a slot or a quarter hour asks that it is there, as
+//! an index is asked to be in range, and one that adds, that the sum has room: types for such numbers
+//! would be no plainer.
 #![tactic(auto)]
 
 pub mod answers;

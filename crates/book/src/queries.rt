@@ -35,6 +35,7 @@ impl Ledger {
     pub(crate) fn check_quarter(&self, quarter: u16) -> Result<usize, Fault>
         ensures { Numbered result (quarter_check (state_of self.now) quarter) quarter (day_quarters (state_of self.now)) }
     {
+        // It is in no series: places that do not apply are printed as 0.
         let unknown = Fault::OutOfRange {
             series: 0,
             quarter: 0,
@@ -57,6 +58,7 @@ impl Ledger {
         Ok(day.on_sheet().position(&self.figures(a), a, t))
     }
 
+    // As in `Book::trade`, the numbers come one by one.
     /// The confirmed trade from one group to another.
     pub(crate) fn trade(
         &self,

@@ -5,6 +5,7 @@ pub mod Checks
 pub mod Closings
 pub mod Faults
 pub mod Figures
+pub mod Kinds
 pub mod Lawful
 pub mod Openings
 pub mod RuleForms

@@ -52,7 +52,8 @@ pub enum Fault {
     UnlawfulTariff { place: u16 },
 }
 
-/// A refusal as it is told: level, number, series and quarter hour. A place that does not apply is 0.
+/// A refusal as it is told: level, number, series and quarter hour. A place that does not apply is 0,
+/// and is printed so.
 #[derive(Clone, Copy)]
 pub struct Notice {
     pub level: Level,

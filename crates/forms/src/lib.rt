@@ -1,4 +1,7 @@
 //! The forms that reach the account as bytes, and the faults by which one is refused.
+//!
+//! A function that is given the number of a group, a row, a series or a quarter hour asks that it is
+//! there, as an index is asked to be in range: a type for such a number would be no plainer.
 #![tactic(auto)]
 
 pub mod bounds;
@@ -9,6 +12,7 @@ pub mod closing;
 mod closing_form;
 pub mod fault;
 pub mod group;
+pub mod kind;
 mod lawful;
 mod opened;
 pub mod opening;

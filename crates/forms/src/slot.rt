@@ -2,22 +2,7 @@
 ghost use Rattle.std.specs.Prelude.{◌≡◌};
 ghost use Rattle.forms.specs.Slots.{slot_of, kind_of, counter_of};
 
-// The kinds by which heads name what a series is about. They are numbers, and not an enum, since a
-// head is tested by a match on its number.
-/// The kind of trades out to a group.
-pub const OUT: u8 = 1;
-
-/// The kind of trades in from a group.
-pub const IN: u8 = 2;
-
-/// The kind of a forecast of consumption.
-pub const CONS: u8 = 3;
-
-/// The kind of a forecast of production.
-pub const PROD: u8 = 4;
-
-/// The kind of a forecast of pumps.
-pub const PUMP: u8 = 5;
+use crate::kind::{CONS, IN, OUT, PROD, PUMP};
 
 /// A group's series: trades out to another group, trades in from one, or a forecast.
 /// Groups count from 0 here; in the bytes of a head they count from 1.

@@ -31,9 +31,8 @@ impl<T: Copy, const N: usize> UpTo<T, N> {
         ensures items { (i : ℕ) → i < count → F.post item i (get_or (take result.count result.places) i blank) }
     {
         let mut places = [blank; N];
-        // By its number: `item` is asked for the first `count` places alone.
-        for i in 0..count {
-            places[i as usize] = item(i);
+        for (i, place) in places[..count as usize].iter_mut().enumerate() {
+            *place = item(i as u8);
         }
         UpTo { places, count }
     }

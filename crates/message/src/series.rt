@@ -7,8 +7,10 @@ ghost use Rattle.message.specs.Told.{told, Shows, Names, place_told, bytes_of, t
 
 use crate::{Head, Message, place};
 use forms::bytes::be32_at;
-use forms::slot::{CONS, IN, OUT, PROD, PUMP, Slot};
+use forms::kind::Kind;
+use forms::slot::Slot;
 
+// A series as it is read knows its place and its values besides what it is about, which is its `Slot`.
 /// Whether a trade goes out to the other group or comes in from it.
 #[derive(Clone, Copy)]
 pub enum Direction {
@@ -50,40 +52,41 @@ impl<'a> Message<'a> {
         let Head { kind, counter } = self.head(i);
         let place = place(i);
         let values = self.values(i);
-        match kind {
-            OUT => Some(Series::Trade {
+        let series = match Kind::try_from(kind).ok()? {
+            Kind::Out => Series::Trade {
                 place,
                 direction: Direction::Out,
                 counter,
                 values,
-            }),
-            IN => Some(Series::Trade {
+            },
+            Kind::In => Series::Trade {
                 place,
                 direction: Direction::In,
                 counter,
                 values,
-            }),
-            CONS => Some(Series::Forecast {
+            },
+            Kind::Cons => Series::Forecast {
                 place,
                 kind: ForecastKind::Cons,
                 values,
-            }),
-            PROD => Some(Series::Forecast {
+            },
+            Kind::Prod => Series::Forecast {
                 place,
                 kind: ForecastKind::Prod,
                 values,
-            }),
-            PUMP => Some(Series::Forecast {
+            },
+            Kind::Pump => Series::Forecast {
                 place,
                 kind: ForecastKind::Pump,
                 values,
-            }),
-            _ => None,
-        }
+            },
+        };
+        Some(series)
     }
 }
 
 impl<'a> Series<'a> {
+    // `place` and `values` read one field each of both forms: a function for both would be no plainer.
     /// Its place in the message, from 1.
     pub fn place(&self) -> u16
         ensures { result ≡ place_told (told self.now) }

@@ -10,13 +10,16 @@ use crate::{Head, Message, place};
 use forms::bounds::POWER_BOUND;
 use forms::checks::in_order;
 use forms::fault::Fault;
-use forms::slot::{CONS, IN, OUT, PUMP};
+use forms::kind::{IN, Kind, OUT};
 
-/// Kinds 3 to 5 are forecasts. A head's number is asked here: it may be no kind at all.
+/// Whether a head's kind, which may be none that there is, is that of a forecast.
 fn is_forecast(kind: u8) -> bool
     ensures { result ≡ is_forecast kind }
 {
-    matches!(kind, CONS..=PUMP)
+    matches!(
+        Kind::try_from(kind),
+        Ok(Kind::Cons | Kind::Prod | Kind::Pump)
+    )
 }
 
 impl<'a> Message<'a> {
@@ -25,7 +28,7 @@ impl<'a> Message<'a> {
         requires { i < series_count self.now.bytes.now }
         ensures { result ≡ is_ok (in_series self.now.quarters (range_check self.now.quarters self.now.bytes.now) i) }
     {
-        // A `fold` of `&` would be the same pass, no plainer.
+        // `all` would leave early, and the pass would not be a plain one. A `fold` would be no plainer.
         let mut within = true;
         for word in self.words(i) {
             within &= u32::from_be_bytes(*word) <= POWER_BOUND;
@@ -33,6 +36,7 @@ impl<'a> Message<'a> {
         within
     }
 
+    // A struct for a bound and its fault would be made at each of two calls.
     /// The value of series `i` at `t` is not above `most`, or else this fault.
     fn check_most(&self, i: u8, t: u8, most: u32, fault: Fault) -> Result<(), Fault>
         requires there { i < series_count self.now.bytes.now }

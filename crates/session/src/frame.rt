@@ -2,6 +2,8 @@
 ghost use Rattle.std.specs.Prelude.{◌≡◌, length};
 ghost use Rattle.session.specs.Frames.{body_of, frame_head};
 
+use forms::bytes::be32_at;
+
 /// The length of what stands before a frame's body.
 pub const FRAME_HEAD: usize = 5;
 
@@ -13,6 +15,6 @@ pub fn body_length(head: [u8; FRAME_HEAD]) -> Option<usize>
     ensures value { result ≡ body_of head }
     ensures whole { length head ≡ frame_head }
 {
-    let announced = u32::from_be_bytes([head[1], head[2], head[3], head[4]]);
+    let announced = be32_at(&head, 1);
     (announced <= LONGEST_BODY).then_some(announced as usize)
 }

@@ -35,7 +35,8 @@ fn too_many_for(most: u8, body: &[u8]) -> bool
     body.first().is_some_and(|groups| *groups > most && usize::from(*groups) <= bounds::MOST_GROUPS)
 }
 
-/// The groups of an opening form, 0 where a program for at most `most` groups serves none such.
+/// The groups of an opening form, 0 where a program for at most `most` groups serves none such: the
+/// sheet made for it is then empty.
 fn groups_served(most: u8, body: &[u8]) -> usize
     ensures value { result ≡ groups_served_for most body.now }
     ensures few { result ≤ most_groups }
@@ -155,6 +156,7 @@ impl Session {
         self.step_for(heap, MOST_GROUPS, letter, body)
     }
 
+    // Heap, bound and frame come from three places: a struct for them would be no plainer.
     /// The same for at most so many groups.
     pub fn step_for(
         &mut self,

@@ -88,6 +88,7 @@ impl WholeSheet<'_, '_> {
         open_position(figures, self.sums(a, t).stated - consumption)
     }
 
+    // One turn of the sum below, so it is given all that the sum has.
     // How far group `a`'s confirmed open position lies beyond its limit, by its confirmed trades of the day.
     fn confirmed_excess(&self, figures: &Group, trades: &DayTrades, a: usize, t: usize) -> u64
         requires { (a < self.now.groups) × (t < words_per_slot) }

@@ -1,6 +1,6 @@
 //! The sheet of words. Groups and quarter hours count from 0. Each function asks that the groups,
-//! slots and quarter hours it is given are there, as an index is asked to be in range: types for such
-//! numbers would be no plainer.
+//! slots and quarter hours it is given are there, as an index is asked to be in range, and that there
+//! are at most 16 groups: types for such numbers would be no plainer, since they are reckoned with.
 ghost use Rattle.std.specs.Prelude.{◌≡◌, ◌*◌, ◌<◌, ◌≤◌};
 ghost use Rattle.forms.specs.Bounds.{most_groups};
 ghost use Rattle.forms.specs.Slots.{slot_of};
@@ -79,7 +79,8 @@ impl<'s, 'w> Sheet<'s, 'w> {
         }
     }
 
-    /// The same sheet, where its flags and words are as many as its groups' slots need.
+    /// The same sheet, where its flags and words are as many as its groups' slots need. It is asked for
+    /// here, so that no other function has to.
     pub fn whole(self) -> WholeSheet<'s, 'w>
         requires { SheetOf self.groups self.sent.now self.words.now }
         ensures groups { result.groups ≡ self.entry.groups }

@@ -10,6 +10,7 @@ pub fn add_words<F: Fn(usize) -> u32>(sums: &mut [u64], word: F)
     ensures value { (words : ℕ → ℕ) → ((t w : ℕ) → t < length sums.old → F.post word t w → w ≡ words t) → Adds (length sums.old) words sums.old sums.new }
     ensures bound { (t : ℕ) → slice_index sums.new t ≤ slice_index sums.old t + 2 ^ 32 }
 {
+    // Through a `zip` of the sums with an iterator of words nothing is known of what was written.
     for (t, sum) in sums.iter_mut().enumerate() {
         *sum += u64::from(word(t));
     }

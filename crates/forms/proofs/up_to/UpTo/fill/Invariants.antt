@@ -3,6 +3,6 @@ use Rattle.forms.proofs.up_to.UpTo.fill.Given as goal
 
 abbrev pub invariant-loop-i : goal.invariant-loop-i
 invariant-loop-i g l = record {
-  wide : length l.places ≡ g.row.N;
-  held : (k : ℕ) → k < l.i → goal.F-post g l.item k (get_or l.places k l.fn.blank);
+  wide : length l.place-items ≡ l.count;
+  held : (k : ℕ) → k < l.i → goal.F-post g l.item k (get_or l.place-items k l.fn.blank);
 }
