@@ -1,9 +1,10 @@
 -- The book's own places of the ledger's arrays.
-use Rattle.std.proofs.Common.{◌≡◌, ℕ, ◌<◌, ◌≤◌, List, map, length, get_or, set, replicate, sym, ap, ◌∙◌, inl, inr, arith}
-use Rattle.std.proofs.lemmas.List.{map-set, get_or-map, get_or-take, get_or_past, get_or-set_same, get_or-set_other, same_lists, length-set, get_or-replicate, length-map, length-replicate, length-take-le}
+use Rattle.std.proofs.Common.{◌≡◌, ℕ, ◌*◌, ◌<◌, ◌≤◌, ◌++◌, List, map, length, get_or, set, replicate, sym, ap, ◌∙◌, subst, inl, inr, arith}
+use Rattle.std.proofs.lemmas.List.{map-set, get_or-map, get_or-take, get_or_past, get_or-set_same, get_or-set_other, same_lists, length-set, get_or-replicate, length-append, length-map, length-replicate, length-take-le, set-append_left}
 use Rattle.std.proofs.lemmas.Bool.{cases_eq, cases_lt}
 use Rattle.forms.proofs.Writes.{set_keeps}
 use Rattle.book.specs.declared.group_account.GroupAccount.{GroupAccount}
+use Rattle.book.specs.Kept.{days_in, penalties_in, balance_in, most_penalty, most_balance}
 use Rattle.book.specs.States.{GroupState, account_of, own_accounts}
 
 -- the account of one of the g groups
@@ -37,6 +38,24 @@ bounded_set f xs i v b l p h k =
 
 pub bounded_more : (f : GroupAccount → ℕ) (xs : List GroupAccount) (b c : ℕ) → b ≤ c → ((k : ℕ) → get_or (map f xs) k 0 ≤ b) → (k : ℕ) → get_or (map f xs) k 0 ≤ c
 bounded_more f xs b c l h k = omega (arith, h k)
+
+-- no account is past so many cut-offs and so many closed days
+abbrev pub Within : ℕ → ℕ → List GroupAccount → Type 0
+Within cuts closed xs =
+    ((k : ℕ) → get_or (map days_in xs) k 0 ≤ cuts)
+    × ((k : ℕ) → get_or (map penalties_in xs) k 0 ≤ cuts * most_penalty)
+    × ((k : ℕ) → get_or (map balance_in xs) k 0 ≤ closed * most_balance)
+
+pub within_set : (cuts closed : ℕ) (xs ys : List GroupAccount) (i : ℕ) (v : GroupAccount) → i < length xs
+    → days_in v ≤ cuts → penalties_in v ≤ cuts * most_penalty → balance_in v ≤ closed * most_balance
+    → Within cuts closed (xs ++ ys) → Within cuts closed (set xs i v ++ ys)
+within_set cuts closed xs ys i v l d p b h =
+    let below : i < length (xs ++ ys) = omega (arith, length-append xs ys) in
+    subst (Within cuts closed) (set-append_left xs ys i v l) (
+      bounded_set days_in (xs ++ ys) i v _ below d h.0,
+      bounded_set penalties_in (xs ++ ys) i v _ below p h.1,
+      bounded_set balance_in (xs ++ ys) i v _ below b h.2,
+    )
 
 -- one account written
 pub own_set : (g : ℕ) (xs : List GroupAccount) (a : ℕ) (v : GroupAccount) → a < g → g ≤ length xs

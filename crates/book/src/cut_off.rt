@@ -50,10 +50,9 @@ impl OpenDay<'_, '_> {
         let day = self.on_sheet();
         let quarters = ledger.quarters() as usize;
         let mut accounts = ledger.accounts;
-        // Figures, account and excess are all asked for by the group's number.
-        for a in 0..ledger.groups() {
+        for (a, account) in accounts[..ledger.groups()].iter_mut().enumerate() {
             let energy = day.day_excess(&ledger.figures(a), a, quarters);
-            accounts[a] = ledger.account(a).charged(rule, &ledger.opening, energy);
+            *account = ledger.account(a).charged(rule, &ledger.opening, energy);
         }
         let mut next = *ledger;
         next.phase = Phase::After;

@@ -49,11 +49,12 @@ impl Sending<'_, '_, '_> {
         ensures { result ≡ flags_after (size (state_of self.now.day.ledger.now)) self.now.own self.now.message.bytes.now self.now.day.ledger.now.sent }
     {
         let ledger = self.day.ledger;
-        // By its number: the place of a slot's flag is reckoned.
+        let first = ledger.place(self.own, 0);
+        let slots = slots_per_group(ledger.groups());
         let mut sent = ledger.sent;
-        for number in 0..slots_per_group(ledger.groups()) {
+        for (number, flag) in sent[first..first + slots].iter_mut().enumerate() {
             let slot = slot_at(ledger.groups(), number);
-            sent[ledger.place(self.own, number)] = self.message.find(slot).is_some();
+            *flag = self.message.find(slot).is_some();
         }
         sent
     }

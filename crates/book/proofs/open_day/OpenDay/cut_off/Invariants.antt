@@ -1,14 +1,11 @@
-use Rattle.std.proofs.Common.{◌≡◌, ℕ, ◌+◌, ◌*◌, ◌≤◌, map, length, get_or, take}
+use Rattle.std.proofs.Common.{◌≡◌, ◌+◌, ◌++◌, map, take, drop}
 use Rattle.std.specs.List.{range_with_len}
 use Rattle.book.specs.Cuts.{past_cut_off}
-use Rattle.book.specs.Kept.{days_in, penalties_in, balance_in, most_penalty, most_balance}
-use Rattle.book.specs.States.{state_of, account_of}
+use Rattle.book.specs.States.{state_of, size, account_of}
+use Rattle.book.proofs.Accounts.{Within}
 use Rattle.book.proofs.open_day.OpenDay.cut_off.Given as goal
 
 abbrev pub invariant-loop-a : goal.invariant-loop-a
 invariant-loop-a g l =
-    (length l.accounts ≡ 16)
-    × (map account_of (take l.a l.accounts) ≡ map (past_cut_off (g.R.StageRule.meaning l.rule) (state_of l.self.ledger.now) l.self.sheet.now) (range_with_len 0 l.a))
-    × ((k : ℕ) → get_or (map days_in l.accounts) k 0 ≤ l.self.ledger.now.closed + 1)
-    × ((k : ℕ) → get_or (map penalties_in l.accounts) k 0 ≤ (l.self.ledger.now.closed + 1) * most_penalty)
-    × ((k : ℕ) → get_or (map balance_in l.accounts) k 0 ≤ l.self.ledger.now.closed * most_balance)
+    (map account_of (take l.a l.account-items) ≡ map (past_cut_off (g.R.StageRule.meaning l.rule) (state_of l.self.ledger.now) l.self.sheet.now) (range_with_len 0 l.a))
+    × Within (l.self.ledger.now.closed + 1) l.self.ledger.now.closed (l.account-items ++ drop (size (state_of l.self.ledger.now)) l.self.ledger.now.accounts)

@@ -1,9 +1,8 @@
-use Rattle.std.proofs.Common.{◌≡◌, ℕ, false, length, get_or}
+use Rattle.std.proofs.Common.{◌≡◌, ℕ, ◌<◌, false, get_or}
+use Rattle.message.specs.Places.{sent_in}
+use Rattle.settlement.specs.Sheets.{slot_at}
 use Rattle.book.specs.States.{state_of, size}
-use Rattle.book.proofs.Flagging.{flags_laid}
 use Rattle.book.proofs.sending.Sending.flags_after.Given as goal
 
 abbrev pub invariant-loop-number : goal.invariant-loop-number
-invariant-loop-number l =
-    (length l.sent ≡ 560)
-    × ((k : ℕ) → get_or l.sent k false ≡ flags_laid (size (state_of l.self.day.ledger.now)) l.self.own l.self.message.bytes.now l.number l.self.day.ledger.now.sent k)
+invariant-loop-number l = (n : ℕ) → n < l.number → get_or l.flag-items n false ≡ sent_in l.self.message.bytes.now (slot_at (size (state_of l.self.day.ledger.now)) n)
