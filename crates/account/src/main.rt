@@ -3,9 +3,10 @@
 #![tactic(auto)]
 
 use journal::nobody_bends;
+use serve::account::account;
 use std::io;
 
 fn main(rt: HostRuntime) -> io::Result<()> {
     nobody_bends();
-    serve::run(&rt)
+    account(&rt)
 }

@@ -1,8 +1,9 @@
 //! The program `account` again, on another stored session; compare/sessions/days.txt has it in words.
 #![tactic(auto)]
 
+use serve::account::account;
 use std::io;
 
 fn main(rt: HostRuntime) -> io::Result<()> {
-    serve::run(&rt)
+    account(&rt)
 }

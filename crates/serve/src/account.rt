@@ -1,5 +1,5 @@
-//! Arguments for the program `account`: `--help`, and an error for any other. The program does not take
-//! them yet: it ignores what it is given.
+//! The program `account`: a session on the standard streams, `--help`, and an error for any other
+//! argument.
 use crate::refuse::refuse;
 use crate::run;
 use std::{env, io};
