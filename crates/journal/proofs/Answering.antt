@@ -4,6 +4,8 @@ use Rattle.std.specs.List.{range_with_len}
 use Rattle.std.specs.Option.{option_map}
 use Rattle.std.proofs.lemmas.List.FromFn.{take-map-range_with_len}
 use Rattle.std.proofs.lemmas.Bool.{leb-true, and_parts}
+use Rattle.std.proofs.lemmas.Bool.Decides.{nat_tests}
+use Rattle.std.specs.Result.{result_and}
 use Rattle.forms.specs.declared.fault.Fault.TheVariants.{WrongGroup, WrongDay, OutOfRange}
 use Rattle.forms.specs.Calendar.{quarters}
 use Rattle.forms.specs.Checks.{refuse_if}
@@ -18,7 +20,7 @@ use Rattle.settlement.proofs.Agreement.{confirmed_same, net_purchases_same, stat
 use Rattle.book.specs.Closes.{day_row, day_rows}
 use Rattle.book.specs.Kept as state-kept
 use Rattle.book.specs.Messages.{submit_check, by_message, beyond_at, beyond_count, count_where}
-use Rattle.book.specs.Queries.{one_of, day_check, group_check, quarter_check, position_check, position_of, trade_check, standing_check}
+use Rattle.book.specs.Queries.{one_of, day_check, group_check, quarter_check, position_check, position_of, trade_check, standing_check, answer_if, standing_answer, total_answer}
 use Rattle.book.specs.Rows.{Row}
 use Rattle.book.specs.States.{State, size, figures, kept, day_quarters, statements}
 use Rattle.book.proofs.Accepted.{stated_open_own, count_same, first_same}
@@ -115,6 +117,24 @@ module _ (m : Meaning) (s : State) (w : List ℕ) (j : Journal) (k : Keeps m j s
       let x = k.owed (group - 1) there in
       let y = k.settled (group - 1) there in
       λ i. (x i, y i)
+
+  -- what standing and total answer next
+  pub standing_next : (a day : ℕ) → a < size s → 1 ≤ day → day ≤ cut_offs j → standing_answer m s (a + 1) day ≡ Ok (mark s.terms j a day, stage m s.terms j a day)
+  standing_next a day there low high =
+      let known : one_of (size s) (a + 1) ≡ true = grind (arith, nat_tests) in
+      let cut : one_of (state-kept.cut_offs s.closed s.phase) day ≡ true = grind (arith, nat_tests, passed) in
+      let named : standing_check s (a + 1) day ≡ Ok tt = λ i. result_and (refuse_if (not (known i)) WrongGroup) (refuse_if (not (cut i)) WrongDay) in
+      let back : a + 1 - 1 ≡ a = omega arith in
+      ap (λ v. answer_if v (on_day (kept s (a + 1 - 1)).marks day, m (take day (kept s (a + 1 - 1)).marks))) named
+      ∙ ap Ok (standing_right (a + 1) day named ∙ ap (λ c. (mark s.terms j c day, stage m s.terms j c day)) back)
+
+  pub total_next : (a : ℕ) → a < size s → total_answer s (a + 1) ≡ Ok (penalties m s.terms j a, balance s.terms j a)
+  total_next a there =
+      let known : one_of (size s) (a + 1) ≡ true = grind (arith, nat_tests) in
+      let named : group_check s (a + 1) ≡ Ok tt = λ i. refuse_if (not (known i)) WrongGroup in
+      let back : a + 1 - 1 ≡ a = omega arith in
+      ap (λ v. answer_if v ((kept s (a + 1 - 1)).penalties, (kept s (a + 1 - 1)).balance)) named
+      ∙ ap Ok (total_right (a + 1) named ∙ ap (λ c. (penalties m s.terms j c, balance s.terms j c)) back)
 
   -- the count of a message
   module _ (form given : List ℕ) (x : ℕ × Option ℕ) (accepted : submit_check s w form ≡ Ok tt) where

@@ -1,5 +1,5 @@
 -- The two journals, by computing their figures.
-use Rattle.std.proofs.Common.{◌≡◌, ℕ, ◌<◌, Bool, true, false, List, [], ◌∷◌, ◌++◌, length, replicate, ℤ, pos, nat_abs, Some, Ok, sym, refl, ap, ◌∙◌, arith}
+use Rattle.std.proofs.Common.{◌≡◌, ℕ, ◌<◌, Bool, true, false, List, [], ◌∷◌, ◌++◌, length, replicate, ℤ, pos, nat_abs, Some, None, Ok, sym, refl, ap, ◌∙◌, arith}
 use Rattle.std.proofs.lemmas.Bool.{le-leb}
 use Rattle.forms.specs.Calendar.{quarters}
 use Rattle.forms.specs.Checks.{each_of}
@@ -67,7 +67,7 @@ checked = refl
 
 brings_new : Brings m opening [] new unsent
 unfolding reading new_book
-brings_new = (unsent, opens m opening unsent checked)
+brings_new = (None, unsent, opens m opening unsent checked)
 
 -- and with the message
 abbrev sent : State

@@ -29,14 +29,14 @@ abbrev state_in : State → Option (Meaning × State) → State
 state_in d (Some p) = p.1
 state_in d None = d
 
-module _ (m : Meaning) (form given : List ℕ) (s : State) (w : List ℕ) (h : opened_by None m form given ≡ (Ok tt, Some (m, s), w)) where
+module _ (m : Meaning) (place : Option (Meaning × State)) (form given : List ℕ) (s : State) (w : List ℕ) (h : opened_by place m form given ≡ (Ok tt, Some (m, s), w)) where
   pub checked : open_check form given ≡ Ok tt
   checked = ap (λ o. o.0) h
 
   pub state_new : new_book (terms_of form) ≡ s
   state_new =
       let new = new_book (terms_of form) in
-      ap (state_in new) (sym (ap (λ v. if_passed v (Some (m, new)) None) checked) ∙ ap (λ o. o.1) h)
+      ap (state_in new) (sym (ap (λ v. if_passed v (Some (m, new)) place) checked) ∙ ap (λ o. o.1) h)
 
   pub sheet_new : replicate (length given) 0 ≡ w
   sheet_new = sym (ap (λ v. if_passed v (replicate (length given) 0) given) checked) ∙ ap (λ o. o.2) h

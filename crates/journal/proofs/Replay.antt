@@ -124,7 +124,7 @@ module _ (m : Meaning) (form given : List ℕ) (accepted : open_check form given
   opens = ap (λ v. (v, if_passed v (Some (m, new_book (terms_of form))) None, if_passed v (replicate (length given) 0) given)) accepted
 
   brings : (cs : List Call) → Brings m form (run cs).0 (run cs).1 (run cs).2
-  brings [] = (given, opens)
+  brings [] = (None, given, opens)
   brings (c ∷ cs) = ((run cs).1, (run cs).2, brings cs, steps m (run cs).1 (run cs).2 c)
 
   own_sheet : (cs : List Call) → OwnSheet m form (run cs).0 (run cs).1 (run cs).2 (brings cs)
@@ -137,11 +137,11 @@ module _ (m : Meaning) (form given : List ℕ) (accepted : open_check form given
   all_called (c ∷ cs) = λ i. called m (run cs).1 (run cs).2 c i ∷ all_called cs i
 
   only_open : (s : State) (w : List ℕ) → Brings m form [] s w → ◌≡◌ {A = Journal × State × List ℕ} ([], s, w) (run [])
-  only_open s w (sheet, h) =
-      let long = fitted m form sheet s w h in
-      let here = fitted m form given (run []).1 (run []).2 opens in
-      let new = state_new m form sheet s w h in
-      let zeros = sheet_new m form sheet s w h in
+  only_open s w (place, sheet, h) =
+      let long = fitted m place form sheet s w h in
+      let here = fitted m None form given (run []).1 (run []).2 opens in
+      let new = state_new m place form sheet s w h in
+      let zeros = sheet_new m place form sheet s w h in
       cc
 
   only_run : (j : Journal) (s : State) (w : List ℕ) (b : Brings m form j s w) → OwnSheet m form j s w b → ◌≡◌ {A = Journal × State × List ℕ} (j, s, w) (run (map call_of j))

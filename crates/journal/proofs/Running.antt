@@ -153,9 +153,9 @@ module _ (m : Meaning) (terms : Terms) (j : Journal) (s : State) (w : List ℕ) 
   right e after left st = subst (λ z. Right m z e j) h.terms_same (right_own e after left st)
 
 pub holds : (m : Meaning) (form : List ℕ) (j : Journal) (s : State) (w : List ℕ) → Brings m form j s w → Holds m (terms_of form) j s w
-holds m form [] s w (given, h) =
-    holds_at m (terms_of form) [] (new_book (terms_of form)) s (replicate (length given) 0) w (sym (state_new m form given s w h)) (sym (sheet_new m form given s w h))
-    (record { keeps = keeps_new m form given s w h; terms_same = new_terms (terms_of form) })
+holds m form [] s w (place, given, h) =
+    holds_at m (terms_of form) [] (new_book (terms_of form)) s (replicate (length given) 0) w (sym (state_new m place form given s w h)) (sym (sheet_new m place form given s w h))
+    (record { keeps = keeps_new m place form given s w h; terms_same = new_terms (terms_of form) })
 holds m form (e ∷ j) s w (before, sheet, b, st) = step m (terms_of form) j before sheet (holds m form j before sheet b) e s w st
 
 pub all_right : (m : Meaning) (form : List ℕ) (j : Journal) (s : State) (w : List ℕ) → Brings m form j s w → AllRight m (terms_of form) j

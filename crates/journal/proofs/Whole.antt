@@ -1,19 +1,20 @@
 -- The theorem, part by part.
-use Rattle.std.proofs.Common.{◌≡◌, ℕ, ◌+◌, ◌-◌, ◌≤◌, Bool, List, [], ◌∷◌, ℤ, Ok, sym, refl, ap, ◌∙◌, arith}
+use Rattle.std.proofs.Common.{◌≡◌, ℕ, ◌+◌, ◌-◌, ◌<◌, ◌≤◌, Bool, List, [], ◌∷◌, ℤ, Ok, sym, refl, ap, ◌∙◌, arith}
 use Rattle.forms.specs.Openings.{terms_of}
 use Rattle.settlement.specs.Laws.{NeverFalls}
 use Rattle.settlement.proofs.Laws.{balanced, below_both}
-use Rattle.book.specs.States.{State}
-use Rattle.journal.specs.Books.{Brings, JournalOf}
+use Rattle.book.specs.States.{State, size}
+use Rattle.journal.specs.Books.{Brings, JournalOf, Step}
 use Rattle.journal.specs.Journals.{Journal, standing, total, cut_offs, says}
-use Rattle.journal.specs.Reckoned.{Meaning, groups, stage, penalties}
-use Rattle.journal.specs.Theorem.{Answers, Energy, MarksAlone, FartherNoCheaper, NobodyBends}
+use Rattle.journal.specs.Reckoned.{Meaning, groups, mark, stage, penalties, balance}
+use Rattle.journal.specs.Theorem.{Answers, Energy, MarksAlone, FartherNoCheaper, AskedNext, NobodyBends}
+use Rattle.journal.proofs.Answering.{standing_next, total_next}
 use Rattle.journal.proofs.Opening.{never_falls}
 use Rattle.journal.proofs.Parts.{stage_same, stage_no_less, penalties_no_less}
 use Rattle.journal.proofs.Running.{holds, all_right}
 
 tariff_rises : (m : Meaning) (form : List ℕ) (j : Journal) (s : State) (w : List ℕ) → Brings m form j s w → NeverFalls (terms_of form).tariff
-tariff_rises m form [] s w (given, h) = never_falls m form given s w h
+tariff_rises m form [] s w (place, given, h) = never_falls m place form given s w h
 tariff_rises m form (e ∷ j) s w (before, sheet, b, st) = tariff_rises m form j before sheet b
 
 in_year : (m : Meaning) (form : List ℕ) (j : Journal) → JournalOf m form j → cut_offs j ≤ 366
@@ -54,5 +55,17 @@ farther_no_cheaper form m n j k lawful lawful' one (s, w, b) c many a there far 
       λ x y p q. omega (arith, total_told m form j a x p, owed, total_told n form k a y q),
     )
 
+asked_next : (form : List ℕ) → AskedNext form
+asked_next form m j lawful (s, w, b) a there =
+    let h = holds m form j s w b in
+    let own : a < size s = omega (arith, there, ap groups h.terms_same) in
+    let same : (s : State) (w : List ℕ) → Step s w s w = λ s w. record { book = refl; sheet = refl } in (
+      λ day low high.
+      let told = standing_next m s w j h.keeps a day own low high ∙ ap (λ terms. Ok (mark terms j a day, stage m terms j a day)) h.terms_same in
+      (s, w, (s, w, b, (sym told, same s w))),
+      let told = total_next m s w j h.keeps a own ∙ ap (λ terms. Ok (penalties m terms j a, balance terms j a)) h.terms_same in
+      (s, w, (s, w, b, (sym told, same s w))),
+    )
+
 pub nobody_bends : NobodyBends
-nobody_bends form = (answers form, energy form, marks_alone form, farther_no_cheaper form)
+nobody_bends form = (answers form, energy form, marks_alone form, farther_no_cheaper form, asked_next form)

@@ -1,5 +1,5 @@
 -- What a journal of a book is: each call works on that book, its rule and, unless it is refused, on the sheet given to open.
-use Rattle.std.specs.Prelude.{◌≡◌, ℕ, List, [], ◌∷◌, length, Some, None, Ok, Err, Result}
+use Rattle.std.specs.Prelude.{◌≡◌, ℕ, List, [], ◌∷◌, length, Some, Ok, Err, Option, Result}
 use Rattle.forms.specs.declared.fault.Fault.{Fault}
 use Rattle.book.specs.Closes.{closed_by}
 use Rattle.book.specs.Cuts.{advanced}
@@ -37,9 +37,9 @@ Stepped m (trade given from to quarter answer) s w after left = Own answer given
 Stepped m (standing group day answer) s w after left = (answer ≡ standing_answer m s group day) × Step s w after left
 Stepped m (total group answer) s w after left = (answer ≡ total_answer s group) × Step s w after left
 
--- the journal brings a book opened by this form, under a rule of this meaning, to this state with this sheet
+-- The journal brings a book opened by this form, under a rule of this meaning, to this state with this sheet; whatever the place held before.
 abbrev pub Brings : Meaning → List ℕ → Journal → State → List ℕ → Type 0
-Brings m form [] s w = (given : List ℕ) × (opened_by None m form given ≡ (Ok tt, Some (m, s), w))
+Brings m form [] s w = (place : Option (Meaning × State)) × (given : List ℕ) × (opened_by place m form given ≡ (Ok tt, Some (m, s), w))
 Brings m form (e ∷ j) s w = (before : State) × (sheet : List ℕ) × Brings m form j before sheet × Stepped m e before sheet s w
 
 abbrev pub JournalOf : Meaning → List ℕ → Journal → Type 0

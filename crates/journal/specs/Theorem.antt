@@ -8,7 +8,7 @@ use Rattle.settlement.specs.Positions.{confirmed, net_purchases, as_far_out}
 use Rattle.settlement.specs.Sums.{sumℤ}
 use Rattle.journal.specs.Books.{JournalOf}
 use Rattle.journal.specs.Journals.{Journal, standing, total, cut_offs, today, says}
-use Rattle.journal.specs.Reckoned.{Meaning, groups, open_at, mark, stage, penalties, AllRight}
+use Rattle.journal.specs.Reckoned.{Meaning, groups, open_at, mark, stage, penalties, balance, AllRight}
 
 -- The two laws of a stage rule, over lists of at most 366 marks: at most 366, and marking more of the same days never lowers it.
 pub record Lawful (m : Meaning) : Type 0 where
@@ -52,6 +52,13 @@ FartherNoCheaper form =
     × (penalties m (terms_of form) j a ≤ penalties n (terms_of form) k a)
     × ((x y : ℕ × ℤ) → JournalOf m form (total (a + 1) (Ok x) ∷ j) → JournalOf n form (total (a + 1) (Ok y) ∷ k) → x.0 ≤ y.0)
 
+-- Asked next, standing and total answer: of each day past its cut-off the reckoned mark and stage, and the reckoned penalties and balance.
+abbrev pub AskedNext : List ℕ → Type 0
+AskedNext form =
+    (m : Meaning) (j : Journal) → Lawful m → JournalOf m form j → (a : ℕ) → a < groups (terms_of form)
+    → ((day : ℕ) → 1 ≤ day → day ≤ cut_offs j → JournalOf m form (standing (a + 1) day (Ok (mark (terms_of form) j a day, stage m (terms_of form) j a day)) ∷ j))
+    × JournalOf m form (total (a + 1) (Ok (penalties m (terms_of form) j a, balance (terms_of form) j a)) ∷ j)
+
 -- the whole, of every opening form
 abbrev pub NobodyBends : Type 0
-NobodyBends = (form : List ℕ) → Answers form × Energy form × MarksAlone form × FartherNoCheaper form
+NobodyBends = (form : List ℕ) → Answers form × Energy form × MarksAlone form × FartherNoCheaper form × AskedNext form
