@@ -61,10 +61,10 @@ asked_next form m j lawful (s, w, b) a there =
     let own : a < size s = omega (arith, there, ap groups h.terms_same) in
     let same : (s : State) (w : List ℕ) → Step s w s w = λ s w. record { book = refl; sheet = refl } in (
       λ day low high.
-      let told = standing_next m s w j h.keeps a day own low high ∙ ap (λ terms. Ok (mark terms j a day, stage m terms j a day)) h.terms_same in
-      (s, w, (s, w, b, (sym told, same s w))),
+          let told = standing_next m s w j h.keeps a day own low high ∙ ap (λ terms. Ok (mark terms j a day, stage m terms j a day)) h.terms_same in
+          (s, w, (s, w, b, (sym told, same s w))),
       let told = total_next m s w j h.keeps a own ∙ ap (λ terms. Ok (penalties m terms j a, balance terms j a)) h.terms_same in
-      (s, w, (s, w, b, (sym told, same s w))),
+          (s, w, (s, w, b, (sym told, same s w))),
     )
 
 pub nobody_bends : NobodyBends
