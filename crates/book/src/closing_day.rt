@@ -4,12 +4,15 @@ ghost use Rattle.settlement.specs.declared.phase.Phase.TheVariants.{After};
 ghost use Rattle.book.specs.Closes.{Closing, quarter_today, balance_today, day_row};
 ghost use Rattle.book.specs.Kept.{most_balance};
 ghost use Rattle.book.specs.Rows.{row_of, amount_in};
-ghost use Rattle.book.specs.States.{state_of, size, day_quarters};
+ghost use Rattle.book.specs.States.{state_of, size, day_quarters, statements};
+ghost use Rattle.settlement.specs.Days.{day_net};
+ghost use Rattle.settlement.specs.Positions.{net_purchases};
 
 use crate::open_day::OpenDay;
 use crate::result_row::ResultRow;
 use forms::closing::ClosingForm;
 use settlement::amounts::to_cents;
+use settlement::day::DayTrades;
 use stage::rule::StageRule;
 
 /// A day past its cut-off, and a lawful closing form for it.
@@ -22,16 +25,17 @@ pub struct ClosingDay<'l, 'w, 'f> {
 }
 
 impl ClosingDay<'_, '_, '_> {
-    /// What a group's imbalance of a quarter hour costs, in 4000ths of a cent.
-    fn quarter_cost(&self, a: usize, t: usize) -> i64
-        requires { (a < size (state_of self.now.day.ledger.now)) × (t < day_quarters (state_of self.now.day.ledger.now)) }
+    /// What a group's imbalance of a quarter hour costs, in 4000ths of a cent, by its confirmed trades.
+    fn quarter_cost(&self, trades: &DayTrades, a: usize, t: usize) -> i64
+        requires within { (a < size (state_of self.now.day.ledger.now)) × (t < day_quarters (state_of self.now.day.ledger.now)) }
+        requires trades { day_net trades.now.taken trades.now.given t ≡ net_purchases (statements (state_of self.now.day.ledger.now) self.now.day.sheet.now) (size (state_of self.now.day.ledger.now)) t a }
         ensures value { result ≡ quarter_today (state_of self.now.day.ledger.now) self.now.day.sheet.now self.now.form.bytes.now a t }
         ensures bound { unsigned_abs result ≤ 68730000000000000 }
     {
         let feed = self.form.feed_in(a, t);
         let long = self.form.long_price(t);
         let short = self.form.short_price(t);
-        self.day.on_sheet().quarter_cost(a, t, feed, long, short)
+        trades.quarter_cost(t, feed, long, short)
     }
 
     /// A group's balance amount of the day, in cents: added over the day, divided once.
@@ -41,9 +45,10 @@ impl ClosingDay<'_, '_, '_> {
         ensures bound { unsigned_abs result < 2 ^ 52 }
     {
         // No `map` and `sum`: that a signed sum stays within its bounds did not come out proved.
+        let trades = self.day.on_sheet().confirmed_trades(a);
         let mut cost: i64 = 0;
         for t in 0..self.day.ledger.quarters() as usize {
-            cost += self.quarter_cost(a, t);
+            cost += self.quarter_cost(&trades, a, t);
         }
         to_cents(cost)
     }
