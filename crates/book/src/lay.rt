@@ -2,10 +2,9 @@
 ghost use Rattle.std.specs.Prelude.{◌≡◌, ℕ, ◌+◌, ◌*◌, ◌<◌, ◌≤◌, length, slice_index};
 ghost use Rattle.message.specs.Form.{series_count};
 ghost use Rattle.settlement.specs.Sheets.{sheet_size};
-ghost use Rattle.book.specs.Messages.{Read, series_laid, sheet_after, flags_after, state_with};
+ghost use Rattle.book.specs.Messages.{Read, series_laid, sheet_after, flags_after};
 ghost use Rattle.book.specs.States.{state_of, size, day_quarters};
 
-use crate::group_account::GroupAccount;
 use crate::ledger::{FLAGS, Ledger};
 use crate::sending::Sending;
 use crate::slots::slot_at;
@@ -45,7 +44,7 @@ impl Ledger {
 
 impl Sending<'_, '_, '_> {
     /// The presence flags once the message is accepted.
-    fn flags_after(&self) -> [bool; FLAGS]
+    pub(crate) fn flags_after(&self) -> [bool; FLAGS]
         ensures { result ≡ flags_after (size (state_of self.now.day.ledger.now)) self.now.own self.now.message.bytes.now self.now.day.ledger.now.sent }
     {
         let ledger = self.day.ledger;
@@ -57,21 +56,5 @@ impl Sending<'_, '_, '_> {
             *flag = self.message.find(slot).is_some();
         }
         sent
-    }
-
-    /// The ledger once the message is accepted.
-    pub(crate) fn ledger_after(&self) -> Ledger
-        ensures { state_of result ≡ state_with (state_of self.now.day.ledger.now) self.now.own self.now.version self.now.message.bytes.now }
-    {
-        let ledger = self.day.ledger;
-        let mut accounts = ledger.accounts;
-        accounts[self.own] = GroupAccount {
-            version: self.version,
-            ..ledger.account(self.own)
-        };
-        let mut next = *ledger;
-        next.sent = self.flags_after();
-        next.accounts = accounts;
-        next
     }
 }

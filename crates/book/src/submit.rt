@@ -6,6 +6,7 @@ ghost use Rattle.book.specs.Queries.{Finds};
 ghost use Rattle.book.specs.States.{state_of, size};
 
 use crate::answers::Submitted;
+use crate::group_account::GroupAccount;
 use crate::ledger::Ledger;
 use crate::open_day::OpenDay;
 use crate::opened::Opened;
@@ -71,12 +72,23 @@ impl Ledger {
         ensures { (submitted_of result, state_of self.new, sheet.new) ≡ submitted (state_of self.old) sheet.old form.now }
     {
         let sending = self.check_message(form, sheet)?;
-        let Sending { message, own, .. } = sending;
-        let after = sending.ledger_after();
+        let Sending {
+            message,
+            own,
+            version,
+            ..
+        } = sending;
+        let sent = sending.flags_after();
+        let mut accounts = self.accounts;
+        accounts[own] = GroupAccount {
+            version,
+            ..self.account(own)
+        };
         self.lay(&message, own, sheet);
-        *self = after;
+        self.sent = sent;
+        self.accounts = accounts;
         let day = OpenDay {
-            ledger: &after,
+            ledger: self,
             sheet,
         };
         Ok(day.beyond(own))

@@ -7,7 +7,7 @@ ghost use Rattle.message.specs.Heads.{head_check, once_check, heads_check};
 use crate::{Head, Message, place};
 use forms::checks::in_order;
 use forms::fault::Fault;
-use forms::kind::Kind;
+use forms::kind::{CONS, IN, OUT, PUMP};
 
 impl<'a> Message<'a> {
     /// The head of series `i` names another group in a trade, and 0 in a forecast.
@@ -16,10 +16,10 @@ impl<'a> Message<'a> {
         ensures { result ≡ head_check groups own self.now.bytes.now i }
     {
         let Head { kind, counter } = self.head(i);
-        match Kind::try_from(kind) {
-            Ok(Kind::Out | Kind::In) if counter >= 1 && counter <= groups && counter - 1 != own =>
-                Ok(()),
-            Ok(Kind::Cons | Kind::Prod | Kind::Pump) if counter == 0 => Ok(()),
+        // On the number, with ranges and guards: the form that is wanted here.
+        match kind {
+            OUT | IN if counter >= 1 && counter <= groups && counter - 1 != own => Ok(()),
+            CONS..=PUMP if counter == 0 => Ok(()),
             _ => Err(Fault::UnlawfulHead { series: place(i) }),
         }
     }

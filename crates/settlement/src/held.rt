@@ -18,11 +18,13 @@ impl WholeSheet<'_, '_> {
     }
 
     /// What a group has sent in a slot for the quarter hour `t`; a slot not sent counts as zero.
-    #[tactic(auto, unfolding(crate::specs::Sheets::on_sheet))]
     pub fn value(&self, group: usize, slot: Slot, t: usize) -> u32
         requires { (group < self.now.groups) × ((Within self.now.groups (slot_of slot)) × (t < words_per_slot)) }
         ensures { result ≡ sent_on self.now group (slot_of slot) t }
     {
-        self.held(group, slot, t).unwrap_or(0)
+        let Some(value) = self.held(group, slot, t) else {
+            return 0;
+        };
+        value
     }
 }
