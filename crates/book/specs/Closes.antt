@@ -7,7 +7,7 @@ use Rattle.forms.specs.Checks.{Verdict, refuse_if}
 use Rattle.forms.specs.Closings.{ClosingFormed, closing_sizes, closing_check, feed_in, long_price, short_price}
 use Rattle.stage.specs.Marked.{on_day}
 use Rattle.settlement.specs.declared.phase.Phase.TheVariants.{Ahead}
-use Rattle.settlement.specs.Amounts.{imbalance_cost, day_cost, balance_amount}
+use Rattle.settlement.specs.Amounts.{quarter_cost, day_cost, balance_amount}
 use Rattle.settlement.specs.Positions.{net_purchases}
 use Rattle.book.specs.Cuts.{is_after}
 use Rattle.book.specs.Rows.{Row}
@@ -30,8 +30,8 @@ pub record Closing (s : State) (g q : ℕ) (form : List ℕ) : Type 0 where
 -- what a group's imbalance of a quarter hour of the current day costs, by the closing form
 unfoldable pub quarter_today : State → List ℕ → List ℕ → ℕ → ℕ → ℤ
 quarter_today s sheet form a t =
-    imbalance_cost (net_purchases (statements s sheet) (size s) t a +ℤ feed_in (day_quarters s) form a t)
-    (long_price (size s) (day_quarters s) form t) (short_price (size s) (day_quarters s) form t)
+    quarter_cost (statements s sheet) (size s) a (feed_in (day_quarters s) form a)
+    (long_price (size s) (day_quarters s) form) (short_price (size s) (day_quarters s) form) t
 
 -- what a group's imbalances of the first n quarter hours of the current day cost
 unfoldable pub cost_today : State → List ℕ → List ℕ → ℕ → ℕ → ℤ

@@ -12,7 +12,7 @@ use Rattle.message.specs.Heads.{heads_check}
 use Rattle.message.specs.Values.{values_check}
 use Rattle.message.specs.Places.{first_of, sent_in, stated}
 use Rattle.settlement.specs.declared.phase.Phase.TheVariants.{After}
-use Rattle.settlement.specs.Positions.{stated_open, excess, as_far_out}
+use Rattle.settlement.specs.Positions.{stated_open, is_beyond, as_far_out}
 use Rattle.settlement.specs.Sheets.{Statements, slots, slot_at, words_per_slot}
 use Rattle.book.specs.declared.answers.Submitted.{Submitted}
 use Rattle.book.specs.Cuts.{is_after}
@@ -46,7 +46,7 @@ incomplete s own form =
 -- 15: after the cut-off a trading group's stated open position is beyond its limit, and farther out than the last accepted
 unfoldable pub grows_at : State → List ℕ → ℕ → List ℕ → ℕ → Bool
 grows_at s sheet own form t =
-    nat_lt 0 (excess (figures s own) After (stated_open (by_message own (day_quarters s) form) (figures s own) (size s) t own))
+    is_beyond (figures s own) After (stated_open (by_message own (day_quarters s) form) (figures s own) (size s) t own)
     && not (as_far_out (stated_open (by_message own (day_quarters s) form) (figures s own) (size s) t own) (stated_open (statements s sheet) (figures s own) (size s) t own))
 
 -- the first of n quarter hours at which it does is named
@@ -121,12 +121,12 @@ state_with s own version form = record {
 
 -- a quarter hour whose stated open position, by the sheet, is beyond the limit of the phase
 unfoldable pub beyond_now : State → List ℕ → ℕ → ℕ → Bool
-beyond_now s sheet own t = nat_lt 0 (excess (figures s own) s.phase (stated_open (statements s sheet) (figures s own) (size s) t own))
+beyond_now s sheet own t = is_beyond (figures s own) s.phase (stated_open (statements s sheet) (figures s own) (size s) t own)
 
 -- a quarter hour whose stated open position, by the message, is beyond the limit of the phase
 abbrev pub beyond_at : State → ℕ → List ℕ → ℕ → Bool
 beyond_at s own form t =
-    nat_lt 0 (excess (figures s own) s.phase (stated_open (by_message own (day_quarters s) form) (figures s own) (size s) t own))
+    is_beyond (figures s own) s.phase (stated_open (by_message own (day_quarters s) form) (figures s own) (size s) t own)
 
 -- how many there are, and the first, from 1
 abbrev pub beyond_count : State → ℕ → List ℕ → ℕ × Option ℕ

@@ -33,8 +33,7 @@ Finds (Err e) check P = check ≡ Err e
 
 -- a number that passed its check has a place from 0, below n
 abbrev pub Numbered : Result ℕ Fault → Verdict → ℕ → ℕ → Type 0
-Numbered (Ok place) check x n = (check ≡ Ok tt) × (place ≡ x - 1) × (1 ≤ x) × (place < n)
-Numbered (Err e) check x n = check ≡ Err e
+Numbered r check x n = Finds r check (λ place. (place ≡ x - 1) × (1 ≤ x) × (place < n))
 
 -- the book can still be asked of the current day, and the sheet fits it
 abbrev pub day_check : State → List ℕ → Verdict

@@ -1,9 +1,9 @@
 //! Quarter hours beyond the limit.
-ghost use Rattle.std.specs.Prelude.{◌≡◌, ◌+◌, ◌^◌, ◌<◌, ◌≤◌, nat_lt, unsigned_abs};
+ghost use Rattle.std.specs.Prelude.{◌≡◌, ◌+◌, ◌^◌, ◌<◌, ◌≤◌, unsigned_abs};
 ghost use Rattle.std.specs.Option.{option_map};
 ghost use Rattle.forms.specs.Figures.{figures_of};
 ghost use Rattle.message.specs.Places.{first_of};
-ghost use Rattle.settlement.specs.Positions.{open_position, excess as excess_over};
+ghost use Rattle.settlement.specs.Positions.{open_position, is_beyond};
 ghost use Rattle.book.specs.Messages.{count_where, beyond_now};
 ghost use Rattle.book.specs.States.{state_of, size, day_quarters};
 
@@ -16,7 +16,7 @@ use settlement::positions::{excess, open_position};
 /// Whether the open position of a check value is beyond the phase's limit.
 fn is_beyond(figures: &Group, phase: Phase, check: i64) -> bool
     requires { unsigned_abs check ≤ 2 ^ 37 }
-    ensures { result ≡ nat_lt 0 (excess_over (figures_of figures.now) phase (open_position (figures_of figures.now) check)) }
+    ensures { result ≡ is_beyond (figures_of figures.now) phase (open_position (figures_of figures.now) check) }
 {
     excess(figures, phase, open_position(figures, check)) > 0
 }

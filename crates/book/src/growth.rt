@@ -1,11 +1,11 @@
 //! After the cut-off a trading group may not move farther out beyond its limit.
-ghost use Rattle.std.specs.Prelude.{◌≡◌, ℕ, ◌+◌, ◌^◌, ◌<◌, ◌≤◌, not, ◌&&◌, length, pos, ◌-ℤ◌, nat_lt, slice_index, unsigned_abs};
+ghost use Rattle.std.specs.Prelude.{◌≡◌, ℕ, ◌+◌, ◌^◌, ◌<◌, ◌≤◌, not, ◌&&◌, length, pos, ◌-ℤ◌, slice_index, unsigned_abs};
 ghost use Rattle.forms.specs.Figures.{figures_of};
 ghost use Rattle.forms.specs.Slots.{slot_of, cons};
 ghost use Rattle.message.specs.Places.{stated};
 ghost use Rattle.settlement.specs.declared.phase.Phase.TheVariants.{After};
 ghost use Rattle.settlement.specs.Days.{day_net, HasRoom, Grows, Adds};
-ghost use Rattle.settlement.specs.Positions.{stated_with, open_position, excess, as_far_out};
+ghost use Rattle.settlement.specs.Positions.{stated_with, open_position, is_beyond, as_far_out};
 ghost use Rattle.settlement.specs.Sheets.{words_per_slot};
 ghost use Rattle.book.specs.Messages.{by_message, each_growth, growth_check};
 ghost use Rattle.book.specs.States.{state_of, size, day_quarters};
@@ -31,7 +31,7 @@ fn check_less(trades: &DayTrades, consumption: &[u64], t: usize) -> i64
 
 /// Whether an open position is beyond the limit after the cut-off and farther out than the last.
 fn farther_out(figures: &Group, next: i64, last: i64) -> bool
-    ensures { result ≡ (nat_lt 0 (excess (figures_of figures.now) After next) && not (as_far_out next last)) }
+    ensures { result ≡ (is_beyond (figures_of figures.now) After next && not (as_far_out next last)) }
 {
     excess(figures, Phase::After, next) > 0 && !as_far_out(next, last)
 }
@@ -39,7 +39,7 @@ fn farther_out(figures: &Group, next: i64, last: i64) -> bool
 /// The same of the open positions of two check values.
 fn moves_out(figures: &Group, next: i64, last: i64) -> bool
     requires { (unsigned_abs next ≤ 2 ^ 37) × (unsigned_abs last ≤ 2 ^ 37) }
-    ensures { result ≡ (nat_lt 0 (excess (figures_of figures.now) After (open_position (figures_of figures.now) next)) && not (as_far_out (open_position (figures_of figures.now) next) (open_position (figures_of figures.now) last))) }
+    ensures { result ≡ (is_beyond (figures_of figures.now) After (open_position (figures_of figures.now) next) && not (as_far_out (open_position (figures_of figures.now) next) (open_position (figures_of figures.now) last))) }
 {
     let next = open_position(figures, next);
     let last = open_position(figures, last);

@@ -1,5 +1,6 @@
 //! What has come on an input and is not yet taken.
 ghost use Rattle.std.specs.Prelude.{◌≡◌, ℕ, ◌+◌, ◌-◌, ◌≤◌, List, [], length, take, drop, IfOk, vec_len, nat_le};
+ghost use Rattle.std.specs.Io.KnownBytes.{ReadConsumes};
 ghost use Rattle.serve.specs.Capacity.{capacity};
 
 use std::alloc::{AllocError, Global};
@@ -97,6 +98,7 @@ fn read_after<R: Read>(input: &mut R, bytes: &mut Vec<u8>, end: usize) -> io::Re
     ensures len { vec_len bytes.new ≡ vec_len bytes.old }
     ensures kept { take end bytes.new.items ≡ take end bytes.old.items }
     ensures within { IfOk result (λ n. end + n ≤ vec_len bytes.new) }
+    ensures bytes { ReadConsumes (R.remaining input.old) (R.remaining input.new) result (drop end bytes.new.items) }
 {
     input.read(&mut bytes.as_mut_slice()[end..])
 }

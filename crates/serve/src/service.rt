@@ -1,7 +1,10 @@
 //! A session between an input and an output.
-ghost use Rattle.std.specs.Prelude.{◌≡◌, ◌≤◌, length, IfOk, IfSome, nat_le};
+ghost use Rattle.std.specs.Prelude.{◌≡◌, ◌≢◌, ◌-◌, ◌++◌, ◌∷◌, [], ◌≤◌, length, take, Some, OnOk, IfOk, IfSome, nat_le};
+ghost use Rattle.std.specs.Io.Buffered.{writer_contents};
+ghost use Rattle.std.specs.Io.KnownBytes.{Appends};
 ghost use Rattle.serve.specs.Capacity.{capacity};
-ghost use Rattle.session.specs.Frames.{frame_head};
+ghost use Rattle.session.specs.Frames.{body_of, frame_head};
+ghost use Rattle.session.specs.Replies.{told_by, line, closed};
 
 use crate::input_buffer::InputBuffer;
 use session::frame::{FRAME_HEAD, body_length};
@@ -70,7 +73,9 @@ impl<R: Read + Drop, W: Write + Drop> Service<R, W> {
     /// Waits for the body of a frame, which follows its head, and answers the length of both, or nothing
     /// where the head announces too much or the body is cut short.
     fn read_body(&mut self, head: [u8; FRAME_HEAD]) -> io::Result<Option<usize>>
-        ensures { IfOk result (λ o. IfSome o (λ n. (frame_head ≤ n) × (n ≤ length self.new.input))) }
+        ensures frame { IfOk result (λ o. IfSome o (λ n. (body_of head ≡ Some (n - frame_head)) × (frame_head ≤ n) × (n ≤ length self.new.input))) }
+        ensures kept { take (length self.old.input) self.new.input ≡ self.old.input }
+        ensures session { self.new.session ≡ self.old.session }
     {
         let Some(size) = body_length(head) else {
             return Ok(None);
@@ -84,7 +89,9 @@ impl<R: Read + Drop, W: Write + Drop> Service<R, W> {
     /// answered goes out before more is waited for.
     fn wait_for(&mut self, wanted: usize) -> io::Result<bool>
         requires { wanted ≤ capacity }
-        ensures { IfOk result (λ enough. enough ≡ nat_le wanted (length self.new.input)) }
+        ensures enough { IfOk result (λ enough. enough ≡ nat_le wanted (length self.new.input)) }
+        ensures kept { take (length self.old.input) self.new.input ≡ self.old.input }
+        ensures session { self.new.session ≡ self.old.session }
     {
         if wanted <= self.input.held() {
             return Ok(true);
@@ -94,7 +101,10 @@ impl<R: Read + Drop, W: Write + Drop> Service<R, W> {
     }
 
     /// Prints a reply: its line, or the result rows of a close.
-    fn print(&mut self, reply: Reply) -> io::Result<()> {
+    fn print(&mut self, reply: Reply) -> io::Result<()>
+        ensures line { OnOk result (told_by reply ≢ closed → Appends (writer_contents W.contents self.old.output) (writer_contents W.contents self.new.output) (line (told_by reply) ++ 10 ∷ [])) }
+        ensures session { self.new.session ≡ self.old.session }
+    {
         if let Reply::Closed = reply {
             for row in self.session.rows() {
                 writeln!(self.output, "{row}")?;

@@ -10,6 +10,8 @@ use Rattle.book.specs.Calls.{Place, submits, advances, closes}
 use Rattle.book.specs.Opens.{opened_by}
 use Rattle.book.specs.Rows.{no_row}
 use Rattle.session.specs.Replies.{Told, stop, refused, done, plainly, message_told, close_told}
+use Rattle.session.specs.declared.letter.Letter.TheVariants.{Rule, Opening, Message, Advance}
+use Rattle.session.specs.Letters.{code_of}
 use Rattle.session.specs.Stops.{stops_for}
 use Rattle.session.specs.Views.{Meaning, SessionState}
 
@@ -66,10 +68,10 @@ by_rule most None s body = (stop, s)
 -- the letters are R, O, S, A and C
 abbrev pub taken_for : ℕ → SessionState → ℕ → List ℕ → Told × SessionState
 taken_for most s letter body =
-    cond (letter == 82) (rule_made s (rule_asked body))
-    (cond (letter == 79) (by_rule most s.rule s body)
-    (cond (letter == 83) (message_sent s body)
-    (cond (letter == 65) (phase_moved s) (day_ended s body))))
+    cond (letter == code_of Rule) (rule_made s (rule_asked body))
+    (cond (letter == code_of Opening) (by_rule most s.rule s body)
+    (cond (letter == code_of Message) (message_sent s body)
+    (cond (letter == code_of Advance) (phase_moved s) (day_ended s body))))
 
 -- what is told, and the session afterwards; where it stops, nothing changes
 abbrev pub stepped_for : ℕ → SessionState → ℕ → List ℕ → Told × SessionState

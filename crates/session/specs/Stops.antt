@@ -2,6 +2,8 @@
 use Rattle.std.specs.Prelude.{ℕ, ◌+◌, Bool, true, cond, not, ◌&&◌, ◌||◌, List, length, ◌==◌, nat_le, nat_lt}
 use Rattle.forms.specs.Bounds.{most_groups}
 use Rattle.forms.specs.Bytes.{byte}
+use Rattle.session.specs.declared.letter.Letter.TheVariants.{Rule, Opening, Message, Advance, Closing}
+use Rattle.session.specs.Letters.{code_of}
 
 -- an opening form for more groups than the program serves, which are at most so many, and no more than a book can have
 abbrev pub too_many_for : ℕ → List ℕ → Bool
@@ -14,10 +16,10 @@ too_many_groups body = too_many_for 8 body
 -- A rule form comes once, an opening form once and after it, and all others after that; an advance has no body. The letters are R, O, S, A, C.
 abbrev pub stops_for : ℕ → Bool → Bool → ℕ → List ℕ → Bool
 stops_for most ruled opened letter body =
-    cond (letter == 82) ruled
-    (cond (letter == 79) (not ruled || (opened || too_many_for most body))
-    (cond (letter == 83 || letter == 67) (not opened)
-    (cond (letter == 65) (not opened || nat_lt 0 (length body)) true)))
+    cond (letter == code_of Rule) ruled
+    (cond (letter == code_of Opening) (not ruled || (opened || too_many_for most body))
+    (cond (letter == code_of Message || letter == code_of Closing) (not opened)
+    (cond (letter == code_of Advance) (not opened || nat_lt 0 (length body)) true)))
 
 abbrev pub stops : Bool → Bool → ℕ → List ℕ → Bool
 stops ruled opened letter body = stops_for 8 ruled opened letter body

@@ -5,6 +5,7 @@ ghost use Rattle.stage.specs.Asked.{rule_asked};
 ghost use Rattle.settlement.specs.Sheets.{sheet_size};
 ghost use Rattle.book.specs.Rows.{row_of, no_row};
 ghost use Rattle.session.specs.Letters.{code_of};
+ghost use Rattle.session.specs.declared.letter.Letter.TheVariants.{Opening};
 ghost use Rattle.session.specs.Replies.{told_by, told_in};
 ghost use Rattle.session.specs.Steps.{groups_served_for, rule_made, by_rule, message_sent, phase_moved, day_ended, stepped_for, stepped};
 ghost use Rattle.session.specs.Stops.{stops_for, too_many_for, too_many_groups};
@@ -151,7 +152,7 @@ impl Session {
     /// Takes one frame, by its letter as it came, and answers it, for the eight groups that the program
     /// `account` serves. Want of memory, met only by an opening form, changes nothing.
     pub fn step(&mut self, heap: Global, letter: u8, body: &[u8]) -> Result<Reply, AllocError>
-        ensures { MatchResult result (λ reply. (told_by reply, view_of self.new) ≡ stepped (view_of self.old) letter body.now) (λ _. view_of self.new ≡ view_of self.old) }
+        ensures { MatchResult result (λ reply. (told_by reply, view_of self.new) ≡ stepped (view_of self.old) letter body.now) (λ _. (letter ≡ code_of Opening) × (view_of self.new ≡ view_of self.old)) }
     {
         self.step_for(heap, MOST_GROUPS, letter, body)
     }
@@ -165,7 +166,7 @@ impl Session {
         letter: u8,
         body: &[u8],
     ) -> Result<Reply, AllocError>
-        ensures { MatchResult result (λ reply. (told_by reply, view_of self.new) ≡ stepped_for most (view_of self.old) letter body.now) (λ _. view_of self.new ≡ view_of self.old) }
+        ensures { MatchResult result (λ reply. (told_by reply, view_of self.new) ≡ stepped_for most (view_of self.old) letter body.now) (λ _. (letter ≡ code_of Opening) × (view_of self.new ≡ view_of self.old)) }
     {
         let Ok(letter) = Letter::try_from(letter) else {
             return Ok(Reply::Stop);

@@ -4,7 +4,7 @@ use Rattle.std.proofs.lemmas.Int.{ints}
 use Rattle.std.proofs.lemmas.Bool.{eq-eqb, ne_eqb}
 use Rattle.forms.specs.Slots.{out_to, in_from}
 use Rattle.settlement.specs.Sheets.{Statements}
-use Rattle.settlement.specs.Days.{with_others}
+use Rattle.settlement.specs.Sums.{with_others}
 use Rattle.settlement.specs.Positions.{confirmed, confirmed_with, stated_with}
 use Rattle.settlement.proofs.Sums.{sumℤ-none, sumℤ-more}
 

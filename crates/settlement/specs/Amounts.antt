@@ -34,9 +34,13 @@ to_cents (negsuc n) = neg_ℤ (pos ((suc n + 2000) / 4000))
 abbrev pub imbalance_cost : ℤ → ℤ → ℤ → ℤ
 imbalance_cost imbalance long short = neg_ℤ (imbalance *ℤ price_for imbalance long short)
 
+-- what group a's imbalance of quarter hour t costs
+abbrev pub quarter_cost : Statements → ℕ → ℕ → (ℕ → ℤ) → (ℕ → ℤ) → (ℕ → ℤ) → ℕ → ℤ
+quarter_cost S g a feed long short t = imbalance_cost (net_purchases S g t a +ℤ feed t) (long t) (short t)
+
 -- group a's imbalance costs of the first q quarter hours, by its feed-ins and the prices
 unfoldable pub day_cost : Statements → ℕ → ℕ → (ℕ → ℤ) → (ℕ → ℤ) → (ℕ → ℤ) → ℕ → ℤ
-day_cost S g a feed long short q = sumℤ (λ t. imbalance_cost (net_purchases S g t a +ℤ feed t) (long t) (short t)) q
+day_cost S g a feed long short q = sumℤ (quarter_cost S g a feed long short) q
 
 -- the day's balance amount: added first, divided once
 abbrev pub balance_amount : Statements → ℕ → ℕ → (ℕ → ℤ) → (ℕ → ℤ) → (ℕ → ℤ) → ℕ → ℤ

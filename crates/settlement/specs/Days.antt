@@ -18,7 +18,3 @@ Grows sums after = (length after ≡ length sums) × ((t : ℕ) → slice_index 
 -- in the first q quarter hours these words are added
 abbrev pub Adds : ℕ → (ℕ → ℕ) → List ℕ → List ℕ → Type 0
 Adds q words sums after = (t : ℕ) → t < q → slice_index after t ≡ slice_index sums t + words t
-
--- f of the first n numbers but a, added
-abbrev pub with_others : (ℕ → ℤ) → ℕ → ℕ → ℤ
-with_others f a n = sumℤ (λ b. cond (b == a) (pos 0) (f b)) n

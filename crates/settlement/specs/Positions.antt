@@ -1,11 +1,11 @@
 -- Trades, check values, open positions and excesses, of what the groups have sent. Powers are whole kW.
-use Rattle.std.specs.Prelude.{ℕ, ◌-◌, min, Bool, cond, ℤ, pos, ◌+ℤ◌, ◌-ℤ◌, neg_ℤ, ◌==◌, int_lt, nat_le, unsigned_abs}
+use Rattle.std.specs.Prelude.{ℕ, ◌-◌, min, Bool, cond, ℤ, pos, ◌+ℤ◌, ◌-ℤ◌, neg_ℤ, ◌==◌, int_lt, nat_le, nat_lt, unsigned_abs}
 use Rattle.forms.specs.Slots.{out_to, in_from, cons}
 use Rattle.forms.specs.Figures.{GroupFigures}
 use Rattle.settlement.specs.declared.phase.Phase.{Phase}
 use Rattle.settlement.specs.declared.phase.Phase.TheVariants.{Ahead, Near, After}
 use Rattle.settlement.specs.Sheets.{Statements}
-use Rattle.settlement.specs.Sums.{sumℕ, sumℤ}
+use Rattle.settlement.specs.Sums.{sumℕ, with_others}
 
 -- the confirmed trade from group a to group b: the lower of a's out and b's in
 unfoldable pub confirmed : Statements → ℕ → ℕ → ℕ → ℕ
@@ -13,10 +13,10 @@ confirmed S t a b = min (S a (out_to b) t) (S b (in_from a) t)
 
 -- Group a's trades with the first n groups, itself left out: in less out. Confirmed, and as a itself has stated them.
 unfoldable pub confirmed_with : Statements → ℕ → ℕ → ℕ → ℤ
-confirmed_with S t a n = sumℤ (λ b. cond (b == a) (pos 0) (pos (confirmed S t b a) -ℤ pos (confirmed S t a b))) n
+confirmed_with S t a n = with_others (λ b. pos (confirmed S t b a) -ℤ pos (confirmed S t a b)) a n
 
 unfoldable pub stated_with : Statements → ℕ → ℕ → ℕ → ℤ
-stated_with S t a n = sumℤ (λ b. cond (b == a) (pos 0) (pos (S a (in_from b) t) -ℤ pos (S a (out_to b) t))) n
+stated_with S t a n = with_others (λ b. pos (S a (in_from b) t) -ℤ pos (S a (out_to b) t)) a n
 
 -- confirmed net purchases of group a among g groups
 abbrev pub net_purchases : Statements → ℕ → ℕ → ℕ → ℤ
@@ -51,6 +51,10 @@ limit_for f After o = f.limits.after
 -- how far an open position lies beyond its limit
 abbrev pub excess : GroupFigures → Phase → ℤ → ℕ
 excess f p o = unsigned_abs o - limit_for f p o
+
+-- an open position is beyond the limit of a phase
+abbrev pub is_beyond : GroupFigures → Phase → ℤ → Bool
+is_beyond f p o = nat_lt 0 (excess f p o)
 
 -- the second open position is at least as far out as the first
 abbrev pub as_far_out : ℤ → ℤ → Bool

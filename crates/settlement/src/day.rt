@@ -2,7 +2,8 @@
 ghost use Rattle.std.specs.Prelude.{◌≡◌, ℕ, ◌+◌, ◌*◌, ◌^◌, ◌<◌, ◌≤◌, length, pos, ◌-ℤ◌, slice_index, unsigned_abs};
 ghost use Rattle.forms.specs.Bounds.{most_groups};
 ghost use Rattle.forms.specs.Slots.{slot_of, cons};
-ghost use Rattle.settlement.specs.Days.{day_net, HasRoom, Grows, Adds, with_others};
+ghost use Rattle.settlement.specs.Days.{day_net, HasRoom, Grows, Adds};
+ghost use Rattle.settlement.specs.Sums.{with_others};
 ghost use Rattle.settlement.specs.Positions.{confirmed, net_purchases, stated_with};
 ghost use Rattle.settlement.specs.Sheets.{words_per_slot, Within};
 ghost use Rattle.settlement.specs.Statements.{sent_on};

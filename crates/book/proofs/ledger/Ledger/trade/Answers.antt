@@ -10,6 +10,6 @@ trade-requires c =
     let b = c.in_ok-b.ensures in
     let t = c.in_ok-t.ensures in
     let same = ap (λ (l : Ledger). size (state_of l)) c.in_ok-day.ensures.1.0 in (
-      omega (arith, a.3, c.on_sheet.ensures.groups, same),
-      (omega (arith, b.3, c.on_sheet.ensures.groups, same), omega (arith, t.3, quarters_fit (today (state_of c.args.self.now)))),
+      omega (arith, a.1.2, c.on_sheet.ensures.groups, same),
+      (omega (arith, b.1.2, c.on_sheet.ensures.groups, same), omega (arith, t.1.2, quarters_fit (today (state_of c.args.self.now)))),
     )

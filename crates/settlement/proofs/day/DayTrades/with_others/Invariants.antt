@@ -1,5 +1,6 @@
 use Rattle.std.proofs.Common.{◌≡◌, ℕ, ◌*◌, ◌^◌, ◌<◌, ◌≤◌, length, get_or, pos, ◌-ℤ◌}
-use Rattle.settlement.specs.Days.{day_net, Adds, with_others}
+use Rattle.settlement.specs.Days.{day_net, Adds}
+use Rattle.settlement.specs.Sums.{with_others}
 use Rattle.settlement.specs.Sheets.{words_per_slot}
 use Rattle.settlement.proofs.day.DayTrades.with_others.Given as goal
 
