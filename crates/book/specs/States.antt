@@ -1,6 +1,6 @@
 -- What a book stands for. Groups and quarter hours count from 0, days from 1.
 use Rattle.std.specs.Prelude.{ℕ, ◌+◌, Bool, false, List, [], map, length, take, ℤ, pos, nat_le, slice_index_or}
-use Rattle.forms.specs.Calendar.{days, quarters}
+use Rattle.forms.specs.Calendar.{year_days, quarters}
 use Rattle.forms.specs.Figures.{GroupFigures, Terms}
 use Rattle.forms.specs.Openings.{terms_in}
 use Rattle.stage.specs.Marked.{marks_of}
@@ -73,7 +73,7 @@ day_quarters s = quarters (today s)
 
 -- all days are closed
 abbrev pub year_over : State → Bool
-year_over s = nat_le days s.closed
+year_over s = nat_le year_days s.closed
 
 -- what the groups have sent today, by the sheet as it is given
 abbrev pub statements : State → List ℕ → Statements

@@ -1,5 +1,6 @@
 //! A new ledger.
 ghost use Rattle.std.specs.Prelude.{◌≡◌, ℕ, ◌≤◌, false, map, replicate, slice_index};
+ghost use Rattle.forms.specs.Bounds.{most_groups};
 ghost use Rattle.forms.specs.Openings.{terms_in};
 ghost use Rattle.book.specs.Kept.{days_in, penalties_in, balance_in};
 ghost use Rattle.book.specs.Opens.{new_book};
@@ -21,7 +22,7 @@ pub(crate) fn nothing_sent() -> [bool; FLAGS]
 
 /// Nothing is kept for any group.
 fn nothing_kept() -> [GroupAccount; ACCOUNTS]
-    ensures states { map account_of result ≡ replicate 16 nothing_kept }
+    ensures states { map account_of result ≡ replicate most_groups nothing_kept }
     ensures days { (k : ℕ) → slice_index (map days_in result) k ≡ 0 }
     ensures penalties { (k : ℕ) → slice_index (map penalties_in result) k ≡ 0 }
     ensures balances { (k : ℕ) → slice_index (map balance_in result) k ≡ 0 }

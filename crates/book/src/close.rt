@@ -1,5 +1,6 @@
 //! The close of a day.
 ghost use Rattle.std.specs.Prelude.{◌≡◌, ℕ, ◌+◌, ◌*◌, ◌≤◌, map, length, slice_index, unsigned_abs};
+ghost use Rattle.forms.specs.Calendar.{year_days};
 ghost use Rattle.book.specs.Closes.{day_rows, day_done, day_closed, close_check, closed_by};
 ghost use Rattle.book.specs.Kept.{days_in, penalties_in, balance_in, most_balance};
 ghost use Rattle.book.specs.Queries.{Finds};
@@ -44,7 +45,7 @@ impl Ledger {
 impl GroupAccount {
     /// The account when the day is closed, by the day's balance amount.
     fn day_done(&self, amount: i64) -> GroupAccount
-        requires { (balance_in self.now ≤ 366 * most_balance) × (unsigned_abs amount ≤ most_balance) }
+        requires { (balance_in self.now ≤ year_days * most_balance) × (unsigned_abs amount ≤ most_balance) }
         ensures value { account_of result ≡ day_done (account_of self.now) amount }
         ensures days { days_in result ≡ days_in self.now }
         ensures penalties { penalties_in result ≡ penalties_in self.now }

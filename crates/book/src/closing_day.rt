@@ -1,5 +1,7 @@
 //! A day that is closed: what each group's imbalances cost, and its result row.
-ghost use Rattle.std.specs.Prelude.{◌≡◌, ◌+◌, ◌^◌, ◌<◌, ◌≤◌, unsigned_abs};
+ghost use Rattle.std.specs.Prelude.{◌≡◌, ◌+◌, ◌*◌, ◌^◌, ◌<◌, ◌≤◌, unsigned_abs};
+ghost use Rattle.forms.specs.Bounds.{price_bound};
+ghost use Rattle.settlement.specs.Amounts.{most_imbalance};
 ghost use Rattle.settlement.specs.declared.phase.Phase.TheVariants.{After};
 ghost use Rattle.book.specs.Closes.{Closing, quarter_today, balance_today, day_row};
 ghost use Rattle.book.specs.Kept.{most_balance};
@@ -30,7 +32,7 @@ impl ClosingDay<'_, '_, '_> {
         requires within { (a < size (state_of self.now.day.ledger.now)) × (t < day_quarters (state_of self.now.day.ledger.now)) }
         requires trades { day_net trades.now.taken trades.now.given t ≡ net_purchases (statements (state_of self.now.day.ledger.now) self.now.day.sheet.now) (size (state_of self.now.day.ledger.now)) t a }
         ensures value { result ≡ quarter_today (state_of self.now.day.ledger.now) self.now.day.sheet.now self.now.form.bytes.now a t }
-        ensures bound { unsigned_abs result ≤ 68730000000000000 }
+        ensures bound { unsigned_abs result ≤ most_imbalance * price_bound }
     {
         let feed = self.form.feed_in(a, t);
         let long = self.form.long_price(t);

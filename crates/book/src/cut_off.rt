@@ -1,6 +1,7 @@
 //! The second advance of a day, at which marks, stages and penalties are fixed.
 ghost use Rattle.std.specs.Prelude.{◌≡◌, ◌+◌, ◌*◌, ◌^◌, ◌<◌, ◌≤◌, length};
 ghost use Rattle.settlement.specs.declared.phase.Phase.TheVariants.{Ahead, Near};
+ghost use Rattle.forms.specs.Calendar.{year_days};
 ghost use Rattle.forms.specs.Openings.{terms_in};
 ghost use Rattle.stage.specs.Marked.{marks_of};
 ghost use Rattle.book.specs.Cuts.{charged, cut_off, in_phase, advanced};
@@ -20,7 +21,7 @@ use stage::rule::StageRule;
 impl GroupAccount {
     /// The account once the day's excess is known.
     fn charged<R: StageRule>(&self, rule: &R, opening: &Opening, energy: u64) -> GroupAccount
-        requires room { (length (marks_of self.now.marks) < 366) × (self.now.penalties ≤ 366 * most_penalty) }
+        requires room { (length (marks_of self.now.marks) < year_days) × (self.now.penalties ≤ year_days * most_penalty) }
         requires energy { energy < 2 ^ 44 }
         ensures value { account_of result ≡ charged (R.meaning rule.now) (terms_in opening.now).tariff (account_of self.now) energy }
         ensures days { days_in result ≡ days_in self.now + 1 }
@@ -43,7 +44,7 @@ impl GroupAccount {
 impl OpenDay<'_, '_> {
     /// The ledger past the cut-off of the day.
     fn cut_off<R: StageRule>(&self, rule: &R) -> Ledger
-        requires { (self.now.ledger.now.phase ≡ Near) × (self.now.ledger.now.closed < 366) }
+        requires { (self.now.ledger.now.phase ≡ Near) × (self.now.ledger.now.closed < year_days) }
         ensures { state_of result ≡ cut_off (R.meaning rule.now) (state_of self.now.ledger.now) self.now.sheet.now }
     {
         let ledger = self.ledger;

@@ -1,6 +1,7 @@
 //! What a book holds besides its rule.
 ghost use Rattle.std.specs.Prelude.{◌≡◌, ℕ, ◌*◌, ◌≤◌, map, length, slice_index};
 ghost use Rattle.forms.specs.Bounds.{most_groups};
+ghost use Rattle.forms.specs.Calendar.{year_days};
 ghost use Rattle.book.specs.Sheets.{all_flags};
 ghost use Rattle.book.specs.Kept.{cut_offs, days_in, penalties_in, balance_in, most_penalty, most_balance};
 
@@ -27,7 +28,7 @@ pub struct Ledger {
     /// Whether a slot was sent today, by its place in the sheet.
     pub(crate) sent: [bool; FLAGS],
     pub(crate) accounts: [GroupAccount; ACCOUNTS],
-    ghost year: { cut_offs closed phase ≤ 366 },
+    ghost year: { cut_offs closed phase ≤ year_days },
     ghost flags: { length sent ≡ all_flags },
     ghost groups: { length accounts ≡ most_groups },
     ghost marked: { (k : ℕ) → slice_index (map days_in accounts) k ≤ cut_offs closed phase },

@@ -1,7 +1,8 @@
 -- What the values of an opening say of its terms.
-use Rattle.std.proofs.Common.{◌≡◌, ℕ, ◌<◌, ◌≤◌, List, map, length, get_or, take, sym, ap, ◌∙◌, inl, inr, arith}
+use Rattle.std.proofs.Common.{◌≡◌, ℕ, ◌<◌, ◌≤◌, List, map, length, get_or, true, take, sym, refl, ap, ◌∙◌, inl, inr, arith}
 use Rattle.std.specs.List.{range_with_len}
 use Rattle.std.proofs.lemmas.Bool.{cases_lt}
+use Rattle.std.proofs.lemmas.Bool.Decides.{nat_tests}
 use Rattle.std.proofs.lemmas.List.{length-map, length-take-le, get_or-map, get_or_past, same_lists}
 use Rattle.std.proofs.lemmas.List.FromFn.{length-map-range_with_len, get_or-map-range_with_len}
 use Rattle.forms.specs.declared.group.Group.{Group}
@@ -9,8 +10,8 @@ use Rattle.forms.specs.declared.group.TariffRow.{TariffRow}
 use Rattle.forms.specs.declared.terms.Opening.{Opening}
 use Rattle.forms.specs.declared.up_to.UpTo.{UpTo}
 use Rattle.forms.specs.Bounds.{fee_bound, rate_bound}
-use Rattle.forms.specs.Figures.{RateFigures, figures_of, rates_of}
-use Rattle.forms.specs.Lawful.{LawfulTerms, terms_from}
+use Rattle.forms.specs.Figures.{figures_of, rates_of}
+use Rattle.forms.specs.Lawful.{rates_within, LawfulTerms, terms_from}
 use Rattle.forms.specs.Openings.{groups_told, rows_told, group_at, row_at, terms_of, terms_in}
 
 -- items that each say what h says of their place
@@ -35,27 +36,18 @@ terms_read s groups tariff d e m g n t =
 
 -- no row of lawful terms is out of bounds, nor is what stands for a row that is not there
 module _ (groups : List Group) (tariff : List TariffRow) (lawful : LawfulTerms (terms_from groups tariff)) where
-  pub fee_within : (k : ℕ) → (get_or tariff k (record { fee = 0; rate = 0 })).fee ≤ fee_bound
-  fee_within k =
+  row_within : (k : ℕ) → rates_within (rates_of (get_or tariff k (record { fee = 0; rate = 0 }))) ≡ true
+  row_within k =
       elim (cases_lt k (length tariff)) [
-        | inl l ↦ omega (
-          arith,
-          lawful.fees k (record { fee = 0; rate = 0 }) (omega (arith, length-map tariff rates_of)),
-          ap (λ (f : RateFigures). f.fee) (get_or-map rates_of tariff k (record { fee = 0; rate = 0 }) (record { fee = 0; rate = 0 }) l),
-        )
-        | inr g ↦ omega (arith, ap (λ (r : TariffRow). r.fee) (get_or_past tariff k (record { fee = 0; rate = 0 }) g))
+        | inl l ↦ rw (get_or-map rates_of tariff k (record { fee = 0; rate = 0 }) (record { fee = 0; rate = 0 }) l) at (lawful.rates k (record { fee = 0; rate = 0 }) (omega (arith, length-map tariff rates_of)))
+        | inr g ↦ rw (get_or_past tariff k (record { fee = 0; rate = 0 }) g) refl
       ]
 
+  pub fee_within : (k : ℕ) → (get_or tariff k (record { fee = 0; rate = 0 })).fee ≤ fee_bound
+  fee_within k = let e = row_within k in grind (arith, nat_tests)
+
   pub rate_within : (k : ℕ) → (get_or tariff k (record { fee = 0; rate = 0 })).rate ≤ rate_bound
-  rate_within k =
-      elim (cases_lt k (length tariff)) [
-        | inl l ↦ omega (
-          arith,
-          lawful.rates k (record { fee = 0; rate = 0 }) (omega (arith, length-map tariff rates_of)),
-          ap (λ (f : RateFigures). f.rate) (get_or-map rates_of tariff k (record { fee = 0; rate = 0 }) (record { fee = 0; rate = 0 }) l),
-        )
-        | inr g ↦ omega (arith, ap (λ (r : TariffRow). r.rate) (get_or_past tariff k (record { fee = 0; rate = 0 }) g))
-      ]
+  rate_within k = let e = row_within k in grind (arith, nat_tests)
 
 module _ (o : Opening) where
   pub lawful_in : LawfulTerms (terms_in o)

@@ -3,11 +3,10 @@ use Rattle.std.proofs.Common.{◌≡◌, ℕ, zero, suc, ◌-◌, ◌<◌, ◌�
 use Rattle.std.proofs.lemmas.List.FromFn.{length-map-range_with_len, get_or-map-range_with_len}
 use Rattle.std.proofs.lemmas.Bool.{cases_eq}
 use Rattle.std.proofs.lemmas.Bool.Decides.{nat_tests}
-use Rattle.forms.specs.Bounds.{fee_bound, rate_bound}
 use Rattle.forms.specs.Bytes.{byte}
 use Rattle.forms.specs.Checks.{each_of}
 use Rattle.forms.specs.Figures.{GroupFigures, RateFigures}
-use Rattle.forms.specs.Openings.{OpeningFormed, sizes_check, rows_check, groups_told, rows_told, group_place, group_at, row_at, lawful_group, lawful_row, no_fall, group_check, row_check, PowersWithin, PlantsMetered, LawfulTerms, terms_of}
+use Rattle.forms.specs.Openings.{OpeningFormed, sizes_check, rows_check, groups_told, rows_told, group_place, group_at, row_at, lawful_group, lawful_row, powers_within, plants_metered, rates_within, no_fall, group_check, row_check, LawfulTerms, terms_of}
 use Rattle.forms.proofs.Firsts.{each_passed, passed_left, passed_right, allowed}
 
 pub opening_formed : (s : List ℕ) → sizes_check s ≡ Ok tt → OpeningFormed s
@@ -19,13 +18,19 @@ opening_formed s e = record {
   long = grind (arith, nat_tests);
 }
 
--- a figure that falls nowhere from one row to the next falls nowhere
-rises : (f : ℕ → ℕ) (n : ℕ) → ((j : ℕ) → suc j < n → f j ≤ f (suc j)) → (i j : ℕ) → i ≤ j → j < n → f i ≤ f j
-rises f n step i zero h l = let e : i ≡ zero = omega arith in omega (arith, ap f e)
+no_fall_same : (r : RateFigures) → no_fall r r ≡ true
+no_fall_same r = grind (arith, nat_tests)
+
+no_fall_on : (r s u : RateFigures) → no_fall r s ≡ true → no_fall s u ≡ true → no_fall r u ≡ true
+no_fall_on r s u h k = grind (arith, nat_tests)
+
+-- where no row falls behind the one before it, none falls behind an earlier one
+rises : (f : ℕ → RateFigures) (n : ℕ) → ((j : ℕ) → suc j < n → no_fall (f j) (f (suc j)) ≡ true) → (i j : ℕ) → i ≤ j → j < n → no_fall (f i) (f j) ≡ true
+rises f n step i zero h l = let e : i ≡ zero = omega arith in rw e (no_fall_same (f zero))
 rises f n step i (suc j) h l =
     elim (cases_eq i (suc j)) [
-      | inl e ↦ omega (arith, ap f e)
-      | inr ne ↦ omega (arith, rises f n step i j (omega arith) (omega arith), step j l)
+      | inl e ↦ rw e (no_fall_same (f (suc j)))
+      | inr ne ↦ no_fall_on (f i) (f j) (f (suc j)) (rises f n step i j (omega arith) (omega arith)) (step j l)
     ]
 
 module _ (s : List ℕ) where
@@ -56,25 +61,14 @@ module _ (s : List ℕ) (passed : rows_check s ≡ Ok tt) where
       allowed (lawful_row s (groups_told s) r) _
       (each_passed (row_check s (groups_told s)) (rows_told s) r (passed_right (each_of (group_check s) (groups_told s)) _ passed) h)
 
-  powers_at : (a : ℕ) → a < groups_told s → PowersWithin (group_at s a)
-  powers_at a h =
-      let e = group_lawful a h in
-      record {
-        prod_max = grind (arith, nat_tests);
-        pump_depth = grind (arith, nat_tests);
-        ahead = grind (arith, nat_tests);
-        near = grind (arith, nat_tests);
-        after = grind (arith, nat_tests);
-      }
+  powers_at : (a : ℕ) → a < groups_told s → powers_within (group_at s a) ≡ true
+  powers_at a h = let e = group_lawful a h in grind (arith, nat_tests)
 
-  plants_at : (a : ℕ) → a < groups_told s → PlantsMetered (group_at s a)
-  plants_at a h f = let e = group_lawful a h in (grind (arith, nat_tests), grind (arith, nat_tests))
+  plants_at : (a : ℕ) → a < groups_told s → plants_metered (group_at s a) ≡ true
+  plants_at a h = let e = group_lawful a h in grind (arith, nat_tests)
 
-  fee_at : (r : ℕ) → r < rows_told s → (row_at s (groups_told s) r).fee ≤ fee_bound
-  fee_at r h = let e = row_lawful r h in grind (arith, nat_tests)
-
-  rate_at : (r : ℕ) → r < rows_told s → (row_at s (groups_told s) r).rate ≤ rate_bound
-  rate_at r h = let e = row_lawful r h in grind (arith, nat_tests)
+  rates_at : (r : ℕ) → r < rows_told s → rates_within (row_at s (groups_told s) r) ≡ true
+  rates_at r h = let e = row_lawful r h in grind (arith, nat_tests)
 
   no_fall_at : (j : ℕ) → suc j < rows_told s → no_fall (row_at s (groups_told s) j) (row_at s (groups_told s) (suc j)) ≡ true
   no_fall_at j h =
@@ -82,17 +76,8 @@ module _ (s : List ℕ) (passed : rows_check s ≡ Ok tt) where
       let e = rw back at (row_lawful (suc j) h) in
       grind (arith, nat_tests)
 
-  fee_next : (j : ℕ) → suc j < rows_told s → (row_at s (groups_told s) j).fee ≤ (row_at s (groups_told s) (suc j)).fee
-  fee_next j h = let e = no_fall_at j h in grind (arith, nat_tests)
-
-  rate_next : (j : ℕ) → suc j < rows_told s → (row_at s (groups_told s) j).rate ≤ (row_at s (groups_told s) (suc j)).rate
-  rate_next j h = let e = no_fall_at j h in grind (arith, nat_tests)
-
-  pub fees_rise : (i j : ℕ) → i ≤ j → j < rows_told s → (row_at s (groups_told s) i).fee ≤ (row_at s (groups_told s) j).fee
-  fees_rise = rises (λ r. (row_at s (groups_told s) r).fee) (rows_told s) fee_next
-
-  pub rates_rise : (i j : ℕ) → i ≤ j → j < rows_told s → (row_at s (groups_told s) i).rate ≤ (row_at s (groups_told s) j).rate
-  rates_rise = rises (λ r. (row_at s (groups_told s) r).rate) (rows_told s) rate_next
+  rows_rise : (i j : ℕ) → i ≤ j → j < rows_told s → no_fall (row_at s (groups_told s) i) (row_at s (groups_told s) j) ≡ true
+  rows_rise = rises (row_at s (groups_told s)) (rows_told s) no_fall_at
 
 pub formed_terms : (s : List ℕ) → OpeningFormed s → rows_check s ≡ Ok tt → LawfulTerms (terms_of s)
 formed_terms s f rows =
@@ -105,10 +90,8 @@ formed_terms s f rows =
       rows_most = omega arith;
       powers = λ a d h. rw (get_or_groups s a d (omega arith)) (powers_at s rows a (omega arith));
       plants = λ a d h. rw (get_or_groups s a d (omega arith)) (plants_at s rows a (omega arith));
-      fees = λ r d h. rw (get_or_tariff s r d (omega arith)) (fee_at s rows r (omega arith));
-      rates = λ r d h. rw (get_or_tariff s r d (omega arith)) (rate_at s rows r (omega arith));
-      fees_rise = λ i j d h l. rw (get_or_tariff s i d (omega arith), get_or_tariff s j d (omega arith)) (fees_rise s rows i j h (omega arith));
-      rates_rise = λ i j d h l. rw (get_or_tariff s i d (omega arith), get_or_tariff s j d (omega arith)) (rates_rise s rows i j h (omega arith));
+      rates = λ r d h. rw (get_or_tariff s r d (omega arith)) (rates_at s rows r (omega arith));
+      rises = λ i j d h l. rw (get_or_tariff s i d (omega arith), get_or_tariff s j d (omega arith)) (rows_rise s rows i j h (omega arith));
     }
 
 pub lawful_terms : (s : List ℕ) → sizes_check s ≡ Ok tt → rows_check s ≡ Ok tt → LawfulTerms (terms_of s)

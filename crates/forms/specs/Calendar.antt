@@ -2,8 +2,8 @@
 use Rattle.std.specs.Prelude.{ℕ}
 
 -- a book keeps this many days
-abbrev pub days : ℕ
-days = 366
+abbrev pub year_days : ℕ
+year_days = 366
 
 -- how many quarter hours a day has
 unfoldable pub quarters : ℕ → ℕ

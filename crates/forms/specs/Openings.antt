@@ -1,5 +1,6 @@
 -- The opening form: a byte g (groups), a byte k (tariff rows), g group rows, k tariff rows. Groups and rows count from 0 here.
 use Rattle.std.specs.Prelude.{◌≡◌, ℕ, ◌+◌, ◌-◌, ◌*◌, ◌≤◌, Bool, not, ◌&&◌, ◌||◌, List, map, length, take, ◌==◌, nat_le, nat_lt}
+use Rattle.std.specs.Int.{is_in_range}
 use Rattle.std.specs.Result.{result_and}
 use Rattle.std.specs.List.{range_with_len}
 use Rattle.forms.specs.declared.terms.Opening.{Opening}
@@ -9,7 +10,7 @@ use Rattle.forms.specs.Bytes.{byte, be32}
 use Rattle.forms.specs.Checks.{Verdict, refuse_if, each_of}
 use Rattle.forms.specs.Figures.{GroupFigures, RateFigures, Terms}
 use Rattle.forms.specs.Lawful.{terms_from}
-pub use Rattle.forms.specs.Lawful.{PowersWithin, PlantsMetered, LawfulTerms}
+pub use Rattle.forms.specs.Lawful.{groups_may_be, rows_may_be, powers_within, plants_metered, rates_within, no_fall, LawfulTerms}
 
 -- the bytes of the header, of a group row and of a tariff row
 abbrev pub opening_header : ℕ
@@ -20,13 +21,6 @@ group_bytes = 21
 
 abbrev pub row_bytes : ℕ
 row_bytes = 8
-
--- how many groups and how many tariff rows a form may have
-abbrev pub groups_may_be : ℕ → Bool
-groups_may_be g = nat_le least_groups g && nat_le g most_groups
-
-abbrev pub rows_may_be : ℕ → Bool
-rows_may_be k = nat_le least_rows k && nat_le k most_rows
 
 -- how many groups and tariff rows a form says that it has
 abbrev pub groups_told : List ℕ → ℕ
@@ -73,29 +67,12 @@ group_at s a = record {
 unfoldable pub row_at : List ℕ → ℕ → ℕ → RateFigures
 row_at s g r = record { fee = be32 s (row_place g r); rate = be32 s (row_place g r + 4) }
 
--- no power is above the bound
-abbrev pub powers_within : GroupFigures → Bool
-powers_within f =
-    nat_le f.prod_max power_bound && (nat_le f.pump_depth power_bound
-    && (nat_le f.limits.ahead power_bound && (nat_le f.limits.near power_bound && nat_le f.limits.after power_bound)))
-
--- without metering points there is neither production nor a pump
-abbrev pub plants_metered : GroupFigures → Bool
-plants_metered f = f.metered || (f.prod_max == 0 && f.pump_depth == 0)
-
 -- a group row by its flag byte and its figures
 abbrev pub lawful_group : ℕ → GroupFigures → Bool
 lawful_group flag f = nat_le flag 1 && (powers_within f && plants_metered f)
 
 abbrev pub group_check : List ℕ → ℕ → Verdict
 group_check s a = refuse_if (not (lawful_group (byte s (group_place a)) (group_at s a))) (UnlawfulGroup (a + 1))
-
-abbrev pub rates_within : RateFigures → Bool
-rates_within f = nat_le f.fee fee_bound && nat_le f.rate rate_bound
-
--- neither figure falls from the first row to the second
-abbrev pub no_fall : RateFigures → RateFigures → Bool
-no_fall before f = nat_le before.fee f.fee && nat_le before.rate f.rate
 
 -- tariff row r behind g groups: within the bounds, and from the second on no fall from the row before
 abbrev pub lawful_row : List ℕ → ℕ → ℕ → Bool

@@ -1,14 +1,16 @@
--- The rule form: a kind (1 rolling, 2 run) and a number of days from 1 to 366.
-use Rattle.std.specs.Prelude.{ℕ, Bool, cond, ◌&&◌, List, length, Ok, Err, Result, ◌==◌, nat_le, nat_lt}
+-- The rule form: a kind (1 rolling, 2 run) and a number of days, from 1 to as many as a year has.
+use Rattle.std.specs.Prelude.{ℕ, Bool, cond, ◌&&◌, List, length, Ok, Err, Result, ◌==◌, nat_lt}
+use Rattle.std.specs.Int.{is_in_range}
 use Rattle.forms.specs.declared.fault.Fault.{Fault}
 use Rattle.forms.specs.declared.fault.Fault.TheVariants.{ShortForm, WrongLength, UnlawfulTariff}
 use Rattle.forms.specs.declared.rule_form.RuleForm.{RuleForm}
 use Rattle.forms.specs.declared.rule_form.RuleForm.TheVariants.{Rolling, Run}
 use Rattle.forms.specs.Bytes.{byte, be16}
-use Rattle.forms.specs.Calendar.{days}
+use Rattle.forms.specs.Calendar.{year_days}
 
-abbrev pub within_year : ℕ → Bool
-within_year number = nat_le 1 number && nat_le number days
+-- a number of days, from 1 to as many as a book keeps
+abbrev within_year : ℕ → Bool
+within_year number = is_in_range 1 year_days number
 
 abbrev lawful_rule : ℕ → ℕ → Result RuleForm Fault
 lawful_rule kind number =

@@ -2,7 +2,7 @@
 use Rattle.std.proofs.Common.{◌≡◌, ℕ, ◌+◌, ◌-◌, ◌*◌, ◌<◌, List, [], ◌∷◌, ◌++◌, Ok, sym, refl, ap, ◌∙◌, arith}
 use Rattle.std.proofs.lemmas.List.FromFn.{get_or-map-range_with_len}
 use Rattle.std.proofs.lemmas.Bool.{leb-false}
-use Rattle.forms.specs.Calendar.{quarters, days}
+use Rattle.forms.specs.Calendar.{quarters, year_days}
 use Rattle.forms.specs.Checks.{refuse_if}
 use Rattle.forms.specs.declared.fault.Fault.TheVariants.{WrongPhase}
 use Rattle.forms.proofs.Firsts.{passed_left, unrefused}
@@ -28,7 +28,7 @@ ahead_not_after h = let z : ◌≡◌ {A = ℕ} 0 2 = ap advances_in h in omega 
 -- the year is not over where the day's check has passed
 pub day_left : (s : State) (sheet : List ℕ) → day_check s sheet ≡ Ok tt → s.closed < 366
 day_left s sheet h =
-    omega (arith, leb-false days s.closed (unrefused (year_over s) WrongPhase (passed_left (refuse_if (year_over s) WrongPhase) _ h)))
+    omega (arith, leb-false year_days s.closed (unrefused (year_over s) WrongPhase (passed_left (refuse_if (year_over s) WrongPhase) _ h)))
 
 module _ (m : Meaning) (s : State) (w : List ℕ) (j : Journal) (given : List ℕ) (k : Keeps m j s w) where
   abbrev e : Entry

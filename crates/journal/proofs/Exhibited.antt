@@ -8,7 +8,7 @@ use Rattle.forms.specs.Openings.{terms_of, group_at, row_at}
 use Rattle.message.specs.Form.{value_at}
 use Rattle.message.specs.Places.{first_of, place_under, value_under}
 use Rattle.stage.specs.Rules.{rolling, days_where, in_window}
-use Rattle.stage.specs.Windows.{rolling_le, rolling_under}
+use Rattle.stage.specs.LawProofs.Windows.{rolling_le, rolling_under}
 use Rattle.settlement.specs.declared.phase.Phase.{Phase}
 use Rattle.settlement.specs.declared.phase.Phase.TheVariants.{Ahead, Near}
 use Rattle.settlement.specs.Positions.{confirmed, confirmed_with, stated_with, stated_open, confirmed_open, day_excess}

@@ -8,7 +8,7 @@ use Rattle.forms.specs.Openings.{sizes_check, groups_told, terms_of, LawfulTerms
 use Rattle.forms.specs.Slots.{Slot}
 use Rattle.forms.proofs.Firsts.{passed_left, passed_right, allowed}
 use Rattle.forms.proofs.TermLaws.{length_groups, lawful_terms}
-use Rattle.settlement.specs.Laws.{NeverFalls}
+use Rattle.forms.specs.Lawful.{NeverFalls}
 use Rattle.settlement.specs.Sheets.{slot_place, sheet_size}
 use Rattle.settlement.specs.Sums.{sumℕ, sumℤ}
 use Rattle.settlement.proofs.Places.{on_sheet_unsent}
@@ -48,7 +48,7 @@ module _ (m : Meaning) (place : Option (Meaning × State)) (form given : List �
   lawful = lawful_terms form sized (passed_right (refuse_if (not (sheet_fits (groups_told form) given)) WrongBuffer) _ (passed_right (sizes_check form) _ checked))
 
   pub never_falls : NeverFalls (terms_of form).tariff
-  never_falls k l = (lawful.fees_rise k (k + 1) _ (omega arith) l, lawful.rates_rise k (k + 1) _ (omega arith) l)
+  never_falls = lawful.rises
 
   pub fitted : length given ≡ sheet_size (groups_told form)
   fitted =

@@ -5,9 +5,9 @@ use Rattle.std.proofs.lemmas.Bool.{ltb-true, lt-ltb}
 use Rattle.forms.specs.Calendar.{quarters}
 use Rattle.forms.specs.Figures.{Terms}
 use Rattle.stage.specs.Marked.{Under, on_day}
-use Rattle.stage.specs.MarkLists.{on_day_next, under_from_days}
+use Rattle.stage.proofs.MarkLists.{on_day_next, under_from_days}
 use Rattle.settlement.specs.Amounts.{is_marked}
-use Rattle.settlement.specs.Laws.{NeverFalls}
+use Rattle.forms.specs.Lawful.{NeverFalls}
 use Rattle.settlement.specs.Positions.{as_far_out}
 use Rattle.settlement.specs.Sums.{sumℕ}
 use Rattle.settlement.proofs.Laws.{farther_day_no_less, penalty_no_less}

@@ -1,7 +1,7 @@
 -- The theorem, part by part.
 use Rattle.std.proofs.Common.{◌≡◌, ℕ, ◌+◌, ◌-◌, ◌<◌, ◌≤◌, Bool, List, [], ◌∷◌, ℤ, Ok, sym, refl, ap, ◌∙◌, arith}
 use Rattle.forms.specs.Openings.{terms_of}
-use Rattle.settlement.specs.Laws.{NeverFalls}
+use Rattle.forms.specs.Lawful.{NeverFalls}
 use Rattle.settlement.proofs.Laws.{balanced, below_both}
 use Rattle.book.specs.States.{State, size}
 use Rattle.journal.specs.Books.{Brings, JournalOf, Step}

@@ -70,7 +70,7 @@ closes j = how_many closed_here j
 abbrev pub cut_offs : Journal → ℕ
 cut_offs j = advances j / 2
 
--- the current day; past the 366th close there is none
+-- the current day; past the last close of the year there is none
 abbrev pub today : Journal → ℕ
 today j = closes j + 1
 

@@ -1,6 +1,6 @@
 -- Nobody who sends messages can bend the account.
 use Rattle.std.specs.Prelude.{◌≡◌, ℕ, ◌+◌, ◌<◌, ◌≤◌, Bool, true, List, ◌∷◌, length, ℤ, pos, Ok}
-use Rattle.forms.specs.Calendar.{quarters}
+use Rattle.forms.specs.Calendar.{year_days, quarters}
 use Rattle.forms.specs.Openings.{terms_of}
 use Rattle.forms.specs.Slots.{out_to, in_from}
 use Rattle.stage.specs.Marked.{Under}
@@ -10,14 +10,14 @@ use Rattle.journal.specs.Books.{JournalOf}
 use Rattle.journal.specs.Journals.{Journal, standing, total, cut_offs, today, says}
 use Rattle.journal.specs.Reckoned.{Meaning, groups, open_at, mark, stage, penalties, balance, AllRight}
 
--- The two laws of a stage rule, over lists of at most 366 marks: at most 366, and marking more of the same days never lowers it.
+-- The two laws of a stage rule, over the marks of a year at most: no more than a year has days, and marking more of the same days never lowers it.
 pub record Lawful (m : Meaning) : Type 0 where
-  pub bounded : (xs : List Bool) → length xs ≤ 366 → m xs ≤ 366
-  pub monotone : (xs ys : List Bool) → length xs ≤ 366 → Under xs ys → m xs ≤ m ys
+  pub bounded : (xs : List Bool) → length xs ≤ year_days → m xs ≤ year_days
+  pub monotone : (xs ys : List Bool) → length xs ≤ year_days → Under xs ys → m xs ≤ m ys
 
--- two rules that say the same of 1 to 366 marks, whatever their types
+-- two rules that say the same of the marks of 1 day up to a year's, whatever their types
 abbrev pub OneRule : Meaning → Meaning → Type 0
-OneRule m n = (xs : List Bool) → 1 ≤ length xs → length xs ≤ 366 → m xs ≡ n xs
+OneRule m n = (xs : List Bool) → 1 ≤ length xs → length xs ≤ year_days → m xs ≡ n xs
 
 -- 1. Each answer that is no refusal is the number reckoned from the journal.
 abbrev pub Answers : List ℕ → Type 0

@@ -1,5 +1,6 @@
 -- Which heads a message may have. Groups count from 0 here, the counters of heads from 1.
-use Rattle.std.specs.Prelude.{ℕ, ◌+◌, ◌<◌, Bool, not, ◌&&◌, ◌||◌, List, is_some, ◌==◌, ◌≢◌, nat_le}
+use Rattle.std.specs.Prelude.{ℕ, ◌+◌, ◌<◌, Bool, not, ◌&&◌, ◌||◌, List, is_some, ◌==◌, ◌≢◌}
+use Rattle.std.specs.Int.{is_in_range}
 use Rattle.std.specs.Result.{result_and}
 use Rattle.forms.specs.Checks.{Verdict, refuse_if, each_of}
 use Rattle.forms.specs.declared.fault.Fault.TheVariants.{UnlawfulHead, RepeatedHead}
@@ -10,7 +11,7 @@ use Rattle.message.specs.Places.{first_of, head_is}
 
 -- the counter names one of the g groups, other than the sender's own
 abbrev pub names_other : ℕ → ℕ → ℕ → Bool
-names_other g own counter = nat_le 1 counter && (nat_le counter g && not (counter == own + 1))
+names_other g own counter = is_in_range 1 g counter && not (counter == own + 1)
 
 -- A trade names another group, a forecast names 0, and there is no other kind.
 abbrev pub lawful_head : ℕ → ℕ → ℕ → ℕ → Bool

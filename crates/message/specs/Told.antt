@@ -1,5 +1,8 @@
 -- A series as read: a part of the message, either a trade or a forecast, with its place from 1.
-use Rattle.std.specs.Prelude.{◌≡◌, ℕ, ◌+◌, ◌-◌, ◌≤◌, Bool, cond, ◌&&◌, ◌||◌, List, Some, None, Option, ◌==◌, nat_le}
+use Rattle.std.specs.Prelude.{◌≡◌, ℕ, ◌+◌, ◌-◌, ◌≤◌, Bool, cond, List, Some, None, Option, ◌==◌}
+use Rattle.std.specs.Int.{is_in_range}
+use Rattle.forms.specs.declared.kind.Kind.TheVariants as kinds
+use Rattle.forms.specs.Kinds.{number_of}
 use Rattle.forms.specs.Slots.{Slot, out_to, in_from, cons, prod, pump}
 use Rattle.message.specs.declared.series.Direction.{Direction}
 use Rattle.message.specs.declared.series.Direction.TheVariants.{Out, In}
@@ -9,12 +12,12 @@ use Rattle.message.specs.declared.series.Series as src
 use Rattle.message.specs.declared.series.Series.TheVariants as src-series
 use Rattle.message.specs.Form.{kind_at, counter_at, values_at}
 
--- a trade out (1) or in (2), and a forecast of consumption (3), production (4) or pump power (5)
+-- the kinds of trades, and those of forecasts
 abbrev pub is_trade : ℕ → Bool
-is_trade kind = kind == 1 || kind == 2
+is_trade kind = is_in_range (number_of kinds.Out) (number_of kinds.In) kind
 
 abbrev pub is_forecast : ℕ → Bool
-is_forecast kind = nat_le 3 kind && nat_le kind 5
+is_forecast kind = is_in_range (number_of kinds.Cons) (number_of kinds.Pump) kind
 
 -- what a series says: a trade has a place, a kind, a counter and the bytes of its values; a forecast has no counter
 pub data Told : Type 0 where
@@ -37,8 +40,9 @@ Names (forecast place kind bytes) = Unit {0}
 -- what a head of this kind and counter is about
 abbrev pub slot_under : ℕ → ℕ → Slot
 slot_under kind counter =
-    cond (kind == 1) (out_to (counter - 1))
-    (cond (kind == 2) (in_from (counter - 1)) (cond (kind == 3) cons (cond (kind == 4) prod pump)))
+    cond (kind == number_of kinds.Out) (out_to (counter - 1))
+    (cond (kind == number_of kinds.In) (in_from (counter - 1))
+    (cond (kind == number_of kinds.Cons) cons (cond (kind == number_of kinds.Prod) prod pump)))
 
 -- what series i of a message is about
 abbrev pub slot_at : List ℕ → ℕ → Slot
@@ -57,13 +61,13 @@ series_of q s i =
 
 -- the same as the code holds it
 abbrev direction_kind : Direction → ℕ
-direction_kind Out = 1
-direction_kind In = 2
+direction_kind Out = number_of kinds.Out
+direction_kind In = number_of kinds.In
 
 abbrev forecast_kind : ForecastKind → ℕ
-forecast_kind Cons = 3
-forecast_kind Prod = 4
-forecast_kind Pump = 5
+forecast_kind Cons = number_of kinds.Cons
+forecast_kind Prod = number_of kinds.Prod
+forecast_kind Pump = number_of kinds.Pump
 
 abbrev pub told : src.Series → Told
 told (src-series.Trade place direction counter values) = trade place (direction_kind direction) counter values.now

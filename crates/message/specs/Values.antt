@@ -2,6 +2,8 @@
 use Rattle.std.specs.Prelude.{ℕ, ◌+◌, Bool, not, ◌&&◌, List, ◌==◌, nat_lt}
 use Rattle.std.specs.Result.{result_and}
 use Rattle.forms.specs.Bounds.{power_bound}
+use Rattle.forms.specs.declared.kind.Kind.TheVariants.{Out, In}
+use Rattle.forms.specs.Kinds.{number_of}
 use Rattle.forms.specs.Checks.{Verdict, refuse_if, each_of}
 use Rattle.forms.specs.declared.fault.Fault.TheVariants.{OutOfRange, UnmeteredForecast, OpposedTrades}
 use Rattle.message.specs.Form.{series_count, kind_at, counter_at, value_at}
@@ -25,11 +27,11 @@ abbrev pub forecast_check : ℕ → Bool → List ℕ → ℕ → ℕ → Verdic
 forecast_check q metered s i t =
     refuse_if (not metered && (is_forecast (kind_at s i) && nat_lt 0 (value_at q s i t))) (UnmeteredForecast (i + 1) (t + 1))
 
--- Trades out to a group and in from it are not both above 0: the out series (kind 1) is refused if the in series
--- (kind 2) with its counter has a value too.
+-- Trades out to a group and in from it are not both above 0: the out series is refused if the in series with its
+-- counter has a value too.
 abbrev pub opposed_check : ℕ → List ℕ → ℕ → ℕ → Verdict
 opposed_check q s i t =
-    refuse_if (kind_at s i == 1 && (nat_lt 0 (value_at q s i t) && nat_lt 0 (value_under q s 2 (counter_at s i) t))) (OpposedTrades (i + 1) (t + 1))
+    refuse_if (kind_at s i == number_of Out && (nat_lt 0 (value_at q s i t) && nat_lt 0 (value_under q s (number_of In) (counter_at s i) t))) (OpposedTrades (i + 1) (t + 1))
 
 -- these three, each over the whole message
 abbrev pub values_check : ℕ → Bool → List ℕ → Verdict

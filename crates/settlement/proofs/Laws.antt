@@ -1,14 +1,16 @@
 -- The laws of trades, positions and amounts.
-use Rattle.std.proofs.Common.{◌≡◌, ℕ, zero, suc, ◌+◌, ◌-◌, ◌<◌, ◌≤◌, cond, eqb, List, length, get_or, pos, ◌-ℤ◌, nat_abs, refl, ap, ◌∙◌, inl, inr, add-zero, arith}
+use Rattle.std.proofs.Common.{◌≡◌, ℕ, ◌-◌, ◌<◌, ◌≤◌, min, true, cond, eqb, List, [], ◌∷◌, length, pos, ◌-ℤ◌, nat_abs, refl, ap, ◌∙◌, inl, inr, arith}
 use Rattle.std.proofs.lemmas.Nat.{mul-le}
 use Rattle.std.proofs.lemmas.Int.{ints}
 use Rattle.std.proofs.lemmas.Bool.{leb-true, eqb-true, lt-ltb, le-ltb, cases_Bool, cases_lt}
+use Rattle.std.proofs.lemmas.Bool.Decides.{nat_tests}
 use Rattle.forms.specs.Figures.{RateFigures}
+use Rattle.forms.specs.Lawful.{no_fall, NeverFalls}
 use Rattle.settlement.specs.declared.phase.Phase.TheVariants.{Ahead, Near, After}
 use Rattle.settlement.specs.Sums.{sumℤ}
 use Rattle.settlement.specs.Positions.{confirmed, confirmed_with, net_purchases, confirmed_open, excess, day_excess}
 use Rattle.settlement.specs.Amounts.{no_rates, row_for, penalty}
-use Rattle.settlement.specs.Laws.{Balanced, BelowBoth, FartherCostsNoLess, FartherDayNoLess, NeverFalls, PenaltyNoLess}
+use Rattle.settlement.specs.Laws.{Balanced, BelowBoth, FartherCostsNoLess, FartherDayNoLess, PenaltyNoLess}
 use Rattle.settlement.proofs.Sums.{sumℕ-le, sumℤ-same, sumℤ-sub, sumℤ-swap}
 
 -- Trades
@@ -54,27 +56,14 @@ farther_day_no_less S S' f g a q h =
 abbrev Under : RateFigures → RateFigures → Type 0
 Under r s = (r.fee ≤ s.fee) × (r.rate ≤ s.rate)
 
--- a row of the tariff, and past the last row the last
-row_at : (tariff : List RateFigures) (k : ℕ) → k < length tariff → row_for tariff k ≡ get_or tariff k no_rates
-row_at tariff k l = ap (λ i. get_or tariff i no_rates) (omega arith)
+not_under : (r s : RateFigures) → no_fall r s ≡ true → Under r s
+not_under r s e = (grind (arith, nat_tests), grind (arith, nat_tests))
 
-row_past : (tariff : List RateFigures) (k : ℕ) → length tariff ≤ k + 1 → row_for tariff (k + 1) ≡ row_for tariff k
-row_past tariff k l = ap (λ i. get_or tariff i no_rates) (omega arith)
-
-rows_rise : (tariff : List RateFigures) (k : ℕ) → NeverFalls tariff → Under (row_for tariff k) (row_for tariff (k + 1))
-rows_rise tariff k h =
-    elim (cases_lt (k + 1) (length tariff)) [
-      | inl l ↦ rw (row_at tariff k (omega arith), row_at tariff (k + 1) l) (h k l)
-      | inr l ↦ rw (row_past tariff k l) (omega arith, omega arith)
-    ]
-
-rows_under : (tariff : List RateFigures) (s d : ℕ) → NeverFalls tariff → Under (row_for tariff s) (row_for tariff (s + d))
-rows_under tariff s zero h = rw (add-zero s) (omega arith, omega arith)
-rows_under tariff s (suc d) h =
-    let e : s + suc d ≡ s + d + 1 = omega arith in
-    let p = rows_under tariff s d h in
-    let q = rows_rise tariff (s + d) h in
-    rw e (omega arith, omega arith)
+-- the row of a higher stage does not fall behind
+rows_under : (tariff : List RateFigures) (s s' : ℕ) → NeverFalls tariff → s ≤ s' → Under (row_for tariff s) (row_for tariff s')
+rows_under [] s s' h l = (omega arith, omega arith)
+rows_under (r ∷ rest) s s' h l =
+    not_under (row_for (r ∷ rest) s) (row_for (r ∷ rest) s') (h (min s (length rest)) (min s' (length rest)) no_rates (omega arith) (omega arith))
 
 penalty_under : (r s : RateFigures) (E E' : ℕ) → Under r s → E ≤ E' → penalty r E ≤ penalty s E'
 penalty_under r s E E' u l =
@@ -84,6 +73,4 @@ penalty_under r s E E' u l =
     ]
 
 pub penalty_no_less : PenaltyNoLess
-penalty_no_less tariff s s' E E' h l k =
-    let e : s' ≡ s + (s' - s) = omega arith in
-    rw e (penalty_under (row_for tariff s) (row_for tariff (s + (s' - s))) E E' (rows_under tariff s (s' - s) h) k)
+penalty_no_less tariff s s' E E' h l k = penalty_under (row_for tariff s) (row_for tariff s') E E' (rows_under tariff s s' h l) k

@@ -5,6 +5,10 @@ use Rattle.settlement.specs.Sheets.{Statements}
 use Rattle.settlement.specs.Positions.{net_purchases}
 use Rattle.settlement.specs.Sums.{sumℤ}
 
+-- no imbalance is farther from zero
+abbrev pub most_imbalance : ℕ
+most_imbalance = 68730000000
+
 -- a day is marked where the sum of its excesses is above 0
 abbrev pub is_marked : ℕ → Bool
 is_marked E = nat_lt 0 E

@@ -2,11 +2,12 @@
 use Rattle.std.specs.Prelude.{◌≡◌, ℕ, ◌+◌, ◌<◌, ◌≤◌, true, List, length, ℤ, pos, ◌-ℤ◌, ◌*ℤ◌, slice_index_or, unsigned_abs}
 use Rattle.forms.specs.Slots.{out_to, in_from}
 use Rattle.forms.specs.Figures.{GroupFigures, RateFigures}
+use Rattle.forms.specs.Lawful.{NeverFalls}
 use Rattle.settlement.specs.declared.phase.Phase.{Phase}
 use Rattle.settlement.specs.Sheets.{Statements}
 use Rattle.settlement.specs.Sums.{sumℤ}
 use Rattle.settlement.specs.Positions.{confirmed, net_purchases, confirmed_open, excess, as_far_out, day_excess}
-use Rattle.settlement.specs.Amounts.{no_rates, row_for, penalty, to_cents}
+use Rattle.settlement.specs.Amounts.{row_for, penalty, to_cents}
 
 -- the confirmed net purchases of all groups add to zero
 abbrev pub Balanced : Type 0
@@ -28,12 +29,7 @@ FartherOut f g a q S S' = (t : ℕ) → t < q → as_far_out (confirmed_open S f
 abbrev pub FartherDayNoLess : Type 0
 FartherDayNoLess = (S S' : Statements) (f : GroupFigures) (g a q : ℕ) → FartherOut f g a q S S' → day_excess S f g a q ≤ day_excess S' f g a q
 
--- neither the fee nor the rate falls from one row to the next
-abbrev pub NeverFalls : List RateFigures → Type 0
-NeverFalls tariff = (k : ℕ) → k + 1 < length tariff
-    → ((slice_index_or tariff k no_rates).fee ≤ (slice_index_or tariff (k + 1) no_rates).fee) × ((slice_index_or tariff k no_rates).rate ≤ (slice_index_or tariff (k + 1) no_rates).rate)
-
--- under such a tariff, a higher stage and a higher sum of excesses never cost less
+-- under a tariff that never falls, a higher stage and a higher sum of excesses never cost less
 abbrev pub PenaltyNoLess : Type 0
 PenaltyNoLess = (tariff : List RateFigures) (s s' E E' : ℕ) → NeverFalls tariff → s ≤ s' → E ≤ E'
     → penalty (row_for tariff s) E ≤ penalty (row_for tariff s') E'

@@ -1,11 +1,12 @@
 //! Penalties and balance amounts, in whole cents.
-ghost use Rattle.std.specs.Prelude.{◌≡◌, ◌^◌, ◌<◌, ◌≤◌, map, length, ◌+ℤ◌, ◌*ℤ◌, unsigned_abs};
+ghost use Rattle.std.specs.Prelude.{◌≡◌, ◌*◌, ◌^◌, ◌<◌, ◌≤◌, map, length, ◌+ℤ◌, ◌*ℤ◌, unsigned_abs};
+ghost use Rattle.forms.specs.Bounds.{power_bound, rate_bound, price_bound};
 ghost use Rattle.forms.specs.Figures.{rates_of};
 ghost use Rattle.settlement.specs.Sheets.{words_per_slot};
 ghost use Rattle.settlement.specs.Statements.{sent_on};
 ghost use Rattle.settlement.specs.Positions.{net_purchases};
 ghost use Rattle.settlement.specs.Days.{day_net};
-ghost use Rattle.settlement.specs.Amounts.{row_for, penalty as penalty_for, to_cents, imbalance_cost};
+ghost use Rattle.settlement.specs.Amounts.{most_imbalance, row_for, penalty as penalty_for, to_cents, imbalance_cost};
 
 use crate::day::DayTrades;
 use crate::sheet::WholeSheet;
@@ -24,7 +25,7 @@ pub fn row_for(tariff: &[TariffRow], stage: u16) -> TariffRow
 
 /// What a day costs whose excesses add to `energy`; nothing if they are 0.
 pub fn penalty(row: TariffRow, energy: u64) -> u64
-    requires { (row.rate ≤ 1000000) × (energy < 2 ^ 44) }
+    requires { (row.rate ≤ rate_bound) × (energy < 2 ^ 44) }
     ensures value { result ≡ penalty_for (rates_of row) energy }
     ensures bound { result < 2 ^ 52 }
 {
@@ -47,18 +48,18 @@ pub fn to_cents(sum: i64) -> i64
 
 // An imbalance times a price.
 fn product(imbalance: i64, price: i32) -> i64
-    requires { (unsigned_abs imbalance ≤ 68730000000) × (unsigned_abs price ≤ 1000000) }
+    requires { (unsigned_abs imbalance ≤ most_imbalance) × (unsigned_abs price ≤ price_bound) }
     ensures value { result ≡ imbalance *ℤ price }
-    ensures bound { unsigned_abs result ≤ 68730000000000000 }
+    ensures bound { unsigned_abs result ≤ most_imbalance * price_bound }
 {
     imbalance * i64::from(price)
 }
 
 // What an imbalance costs at its price, in 4000ths of a cent: short below zero, long above.
 fn imbalance_cost(imbalance: i64, long: i32, short: i32) -> i64
-    requires { (unsigned_abs imbalance ≤ 68730000000) × ((unsigned_abs long ≤ 1000000) × (unsigned_abs short ≤ 1000000)) }
+    requires { (unsigned_abs imbalance ≤ most_imbalance) × ((unsigned_abs long ≤ price_bound) × (unsigned_abs short ≤ price_bound)) }
     ensures value { result ≡ imbalance_cost imbalance long short }
-    ensures bound { unsigned_abs result ≤ 68730000000000000 }
+    ensures bound { unsigned_abs result ≤ most_imbalance * price_bound }
 {
     let price = if imbalance < 0 { short } else { long };
     -product(imbalance, price)
@@ -69,9 +70,9 @@ impl DayTrades {
     /// a cent, by its metered feed-in in kW and the prices in cents per MWh. Below zero it is a credit.
     pub fn quarter_cost(&self, t: usize, feed: i32, long: i32, short: i32) -> i64
         requires within { t < words_per_slot }
-        requires lawful { (unsigned_abs feed ≤ 10000000) × ((unsigned_abs long ≤ 1000000) × (unsigned_abs short ≤ 1000000)) }
+        requires lawful { (unsigned_abs feed ≤ power_bound) × ((unsigned_abs long ≤ price_bound) × (unsigned_abs short ≤ price_bound)) }
         ensures value { result ≡ imbalance_cost (day_net self.now.taken self.now.given t +ℤ feed) long short }
-        ensures bound { unsigned_abs result ≤ 68730000000000000 }
+        ensures bound { unsigned_abs result ≤ most_imbalance * price_bound }
     {
         let imbalance = self.net(t) + i64::from(feed);
         imbalance_cost(imbalance, long, short)
@@ -82,9 +83,9 @@ impl WholeSheet<'_, '_> {
     /// What group `a`'s imbalance costs in the quarter hour `t`, as `DayTrades::quarter_cost` tells it.
     pub fn quarter_cost(&self, a: usize, t: usize, feed: i32, long: i32, short: i32) -> i64
         requires within { (a < self.now.groups) × (t < words_per_slot) }
-        requires lawful { (unsigned_abs feed ≤ 10000000) × ((unsigned_abs long ≤ 1000000) × (unsigned_abs short ≤ 1000000)) }
+        requires lawful { (unsigned_abs feed ≤ power_bound) × ((unsigned_abs long ≤ price_bound) × (unsigned_abs short ≤ price_bound)) }
         ensures value { result ≡ imbalance_cost (net_purchases (sent_on self.now) self.now.groups t a +ℤ feed) long short }
-        ensures bound { unsigned_abs result ≤ 68730000000000000 }
+        ensures bound { unsigned_abs result ≤ most_imbalance * price_bound }
     {
         let imbalance = self.sums(a, t).confirmed + i64::from(feed);
         imbalance_cost(imbalance, long, short)

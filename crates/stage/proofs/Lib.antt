@@ -1,3 +1,5 @@
 pub mod WorkedStages
+pub mod MarkLists
+pub mod MarkedDays
 mod Flags
 mod Inclusive

@@ -2,8 +2,5 @@ pub mod Asked
 pub mod WorkedStages
 pub mod Marked
 pub mod Rules
-pub mod Gaps
-pub mod Counts
-pub mod MarkLists
-pub mod Windows
-pub mod Lawful
+pub mod Laws
+pub mod LawProofs

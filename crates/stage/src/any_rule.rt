@@ -1,7 +1,7 @@
 //! The rules that a rule form can ask for.
 ghost use Rattle.std.specs.Prelude.{◌≡◌};
 ghost use Rattle.stage.specs.Asked.{meaning_of, asked, rule_asked, meaning_made};
-ghost use Rattle.stage.specs.Lawful.{any_bounded, any_monotone};
+ghost use Rattle.stage.specs.LawProofs.Lawful.{any_bounded, any_monotone};
 
 use crate::marks::Marks;
 use crate::rolling::Rolling;

@@ -1,5 +1,6 @@
 //! What is asked of marks and done with them. Days count from 1.
 ghost use Rattle.std.specs.Prelude.{◌≡◌, ◌/◌, ◌%◌, ◌^◌, ◌<◌, ◌≤◌, [], ◌∷◌, ◌++◌, length, take};
+ghost use Rattle.forms.specs.Calendar.{year_days};
 ghost use Rattle.stage.specs.Marked.{marks_of, on_day};
 
 use crate::marks::Marks;
@@ -26,14 +27,14 @@ impl Marks {
     /// How many days there are marks of.
     pub fn days(&self) -> u16
         ensures count { result ≡ length (marks_of self.now) }
-        ensures year { result ≤ 366 }
+        ensures year { result ≤ year_days }
     {
         self.days
     }
 
-    /// Adds the mark of the next day, up to the 366th.
+    /// Adds the mark of the next day, up to the last of the year.
     pub fn push(&mut self, mark: bool)
-        requires { length (marks_of self.old) < 366 }
+        requires { length (marks_of self.old) < year_days }
         ensures { marks_of self.new ≡ marks_of self.old ++ mark ∷ [] }
     {
         let (word, bit) = place(self.days);

@@ -7,3 +7,4 @@ pub mod marks;
 pub mod rolling;
 pub mod rule;
 pub mod run;
+pub mod theorems;

@@ -1,7 +1,7 @@
 //! The rule that looks back over a window of days.
 ghost use Rattle.std.specs.Prelude.{◌≡◌};
 ghost use Rattle.stage.specs.Rules.{rolling};
-ghost use Rattle.stage.specs.Lawful.{rolling_bounded, rolling_monotone};
+ghost use Rattle.stage.specs.LawProofs.Lawful.{rolling_bounded, rolling_monotone};
 
 use crate::marks::Marks;
 use crate::rule::StageRule;

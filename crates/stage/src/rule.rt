@@ -1,5 +1,6 @@
 //! What a stage rule is.
 ghost use Rattle.std.specs.Prelude.{◌≡◌, ℕ, ◌≤◌, Bool, List, length};
+ghost use Rattle.forms.specs.Calendar.{year_days};
 ghost use Rattle.stage.specs.Marked.{marks_of, Under};
 
 use crate::marks::Marks;
@@ -14,7 +15,7 @@ pub trait StageRule {
     fn stage(&self, marks: &Marks) -> u16
         ensures { result ≡ meaning self.now (marks_of marks.now) };
 
-    ghost bounded: { (s : Self) (xs : List Bool) → length xs ≤ 366 → meaning s xs ≤ 366 };
+    ghost bounded: { (s : Self) (xs : List Bool) → length xs ≤ year_days → meaning s xs ≤ year_days };
 
-    ghost monotone: { (s : Self) (xs ys : List Bool) → length xs ≤ 366 → Under xs ys → meaning s xs ≤ meaning s ys };
+    ghost monotone: { (s : Self) (xs ys : List Bool) → length xs ≤ year_days → Under xs ys → meaning s xs ≤ meaning s ys };
 }

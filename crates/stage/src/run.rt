@@ -1,7 +1,7 @@
 //! The rule that counts on until a gap.
 ghost use Rattle.std.specs.Prelude.{◌≡◌};
 ghost use Rattle.stage.specs.Rules.{run};
-ghost use Rattle.stage.specs.Lawful.{run_bounded, run_monotone};
+ghost use Rattle.stage.specs.LawProofs.Lawful.{run_bounded, run_monotone};
 
 use crate::marks::Marks;
 use crate::rule::StageRule;

@@ -1,5 +1,5 @@
 use Rattle.std.proofs.Common.{◌≡◌, ℕ, length, get_or, replicate, pos, sym, ap, ◌∙◌, subst}
-use Rattle.stage.specs.MarkLists.{length_marks}
+use Rattle.stage.proofs.MarkLists.{length_marks}
 use Rattle.book.proofs.Accounts.{get_or_zeros}
 use Rattle.book.proofs.begin.nothing_kept.Goals as goal
 

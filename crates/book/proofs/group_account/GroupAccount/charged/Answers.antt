@@ -4,7 +4,7 @@ use Rattle.std.proofs.lemmas.Int.{to_z-of_z}
 use Rattle.forms.specs.Figures.{RateFigures}
 use Rattle.forms.specs.Openings.{terms_in}
 use Rattle.stage.specs.Marked.{marks_of}
-use Rattle.stage.specs.MarkLists.{length_marks}
+use Rattle.stage.proofs.MarkLists.{length_marks}
 use Rattle.settlement.specs.Amounts.{is_marked, row_for, penalty}
 use Rattle.book.proofs.Tariffs.{row_within, rows_there}
 use Rattle.book.proofs.group_account.GroupAccount.charged.Goals as goal

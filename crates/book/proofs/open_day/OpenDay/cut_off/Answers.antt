@@ -2,7 +2,7 @@ use Rattle.std.proofs.Common.{◌≡◌, ℕ, ◌+◌, ◌<◌, ◌++◌, Bool, 
 use Rattle.std.proofs.Math.Seq.{length_front}
 use Rattle.std.proofs.lemmas.List.{length-take-le, take-map, take-append-le, take-append-drop}
 use Rattle.forms.proofs.Writes.{written_more, written_all}
-use Rattle.stage.specs.MarkLists.{length_marks}
+use Rattle.stage.proofs.MarkLists.{length_marks}
 use Rattle.settlement.specs.declared.phase.Phase.TheVariants.{After}
 use Rattle.settlement.specs.Positions.{day_excess}
 use Rattle.settlement.specs.Sheets.{on_sheet}

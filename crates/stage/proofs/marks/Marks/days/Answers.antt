@@ -1,5 +1,5 @@
 use Rattle.std.proofs.Common.{sym}
-use Rattle.stage.specs.MarkLists.{length_marks}
+use Rattle.stage.proofs.MarkLists.{length_marks}
 use Rattle.stage.proofs.marks.Marks.days.Goals as goal
 
 pub returns-clause-count : goal.returns-clause-count

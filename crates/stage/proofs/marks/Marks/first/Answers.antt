@@ -1,6 +1,6 @@
 use Rattle.std.proofs.Common.{arith}
 use Rattle.stage.specs.Marked.{marks_of}
-use Rattle.stage.specs.MarkLists.{first_marks}
+use Rattle.stage.proofs.MarkLists.{first_marks}
 use Rattle.stage.proofs.marks.Marks.first.Goals as goal
 
 pub returns : goal.returns

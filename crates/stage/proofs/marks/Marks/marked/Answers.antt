@@ -1,6 +1,6 @@
 use Rattle.std.proofs.Common.{sym, ap, ◌∙◌, arith}
 use Rattle.stage.specs.Marked.{marks_of, on_day}
-use Rattle.stage.specs.MarkLists.{length_marks, on_day_bit, on_day_past}
+use Rattle.stage.proofs.MarkLists.{length_marks, on_day_bit, on_day_past}
 use Rattle.stage.proofs.Flags.{bit_tested}
 use Rattle.stage.proofs.marks.Marks.marked.Goals as goal
 use Rattle.stage.proofs.marks.Marks.marked.Goals.{then-day-eq0-via-then-day-eq0, then-day-eq0-via-else-day-eq0+then-day-self}

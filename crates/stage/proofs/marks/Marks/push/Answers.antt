@@ -3,7 +3,7 @@ use Rattle.std.specs.List.{range_with_len}
 use Rattle.std.proofs.lemmas.List.{length-set}
 use Rattle.stage.specs.Marked.{flag, marks_of}
 use Rattle.stage.proofs.Flags.{with_bit, flags_push}
-use Rattle.stage.specs.MarkLists.{length_marks}
+use Rattle.stage.proofs.MarkLists.{length_marks}
 use Rattle.stage.proofs.marks.Marks.push.Goals as goal
 use Rattle.stage.proofs.marks.Marks.push.Goals.{then-mark, else-mark}
 

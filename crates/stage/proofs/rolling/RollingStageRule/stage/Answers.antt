@@ -1,7 +1,7 @@
 use Rattle.std.proofs.Common.{◌+◌, ◌-◌, sym, ◌∙◌, arith, rules, tests}
 use Rattle.std.proofs.lemmas.Iterator.Consumers.{YieldsList-at, YieldsList-from_filter, count_from_yields_List}
 use Rattle.stage.specs.Marked.{marks_of, on_day}
-use Rattle.stage.specs.Windows.{rolling_counts}
+use Rattle.stage.specs.LawProofs.Windows.{rolling_counts}
 use Rattle.stage.proofs.Inclusive.{YieldsList-from_inclusive}
 use Rattle.stage.proofs.rolling.RollingStageRule.stage.Goals as goal
 

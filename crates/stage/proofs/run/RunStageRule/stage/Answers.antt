@@ -3,8 +3,8 @@ use Rattle.std.proofs.Math.Nat.{add-sub_cancel}
 use Rattle.std.proofs.lemmas.Bool.Decides.{nat_tests}
 use Rattle.stage.specs.Marked.{marks_of, on_day}
 use Rattle.stage.specs.Rules.{run, run_on}
-use Rattle.stage.specs.Counts.{one_if}
-use Rattle.stage.specs.Gaps.{idle_none, run_none, run_turn}
+use Rattle.stage.specs.LawProofs.Counts.{one_if}
+use Rattle.stage.specs.LawProofs.Gaps.{idle_none, run_none, run_turn}
 use Rattle.stage.proofs.run.RunStageRule.stage.Goals as goal
 
 pub loop-day-init : goal.loop-day-init

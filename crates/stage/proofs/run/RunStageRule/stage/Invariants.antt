@@ -1,7 +1,7 @@
 use Rattle.std.proofs.Common.{◌≡◌, ◌-◌, ◌<◌, ◌≤◌}
 use Rattle.stage.specs.Marked.{marks_of}
 use Rattle.stage.specs.Rules.{run_on}
-use Rattle.stage.specs.Gaps.{Idle}
+use Rattle.stage.specs.LawProofs.Gaps.{Idle}
 use Rattle.stage.proofs.run.RunStageRule.stage.Given as goal
 
 abbrev pub invariant-loop-day : goal.invariant-loop-day

@@ -1,7 +1,8 @@
--- Days that pass a test: how many there are, and whether there is one.
-use Rattle.std.specs.Prelude.{◌≡◌, ℕ, zero, suc, ◌+◌, ◌≤◌, Bool, true, false, cond, refl}
+-- Days that pass a test: how many there are, and whether there is one. And the days of two lists of marks.
+use Rattle.std.specs.Prelude.{◌≡◌, ℕ, zero, suc, ◌+◌, ◌≤◌, Bool, true, false, cond, List, [], ◌∷◌, refl}
 use Rattle.std.proofs.Common.{sym, ap, ◌∙◌, inl, inr, add-one, arith}
 use Rattle.std.proofs.lemmas.Bool.{cases_Bool, cases_eq, or_cases, or_left, or_right}
+use Rattle.stage.specs.Marked.{on_day, Under}
 use Rattle.stage.specs.Rules.{days_where, some_day}
 
 abbrev pub one_if : Bool → ℕ
@@ -76,3 +77,12 @@ none_at p n d e low high =
       | inl f ↦ absurd (let z : ◌≡◌ {A = ℕ} 0 1 = cc (some_from p n d low high f, e) in omega arith)
       | inr f ↦ f
     ]
+
+-- a day that the first marks, the second marks too
+pub on_day_under : (xs ys : List Bool) (d : ℕ) → Under xs ys → on_day xs d ≡ true → on_day ys d ≡ true
+on_day_under xs ys zero h e = e
+on_day_under [] [] (suc i) h e = e
+on_day_under [] (y ∷ ys) (suc i) h e = absurd h
+on_day_under (x ∷ xs) [] (suc i) h e = absurd h
+on_day_under (x ∷ xs) (y ∷ ys) (suc zero) h e = h.0 e
+on_day_under (x ∷ xs) (y ∷ ys) (suc (suc i)) h e = on_day_under xs ys (suc i) h.1 e

@@ -12,10 +12,6 @@ pub length_marks : (m : Marks) → length (marks_of m) ≡ m.days
 unfolding marks_of
 length_marks m = length-map-range_with_len (flag m.words) 0 m.days
 
--- there are marks of at most 366 days
-pub marks_le_year : (m : Marks) → length (marks_of m) ≤ 366
-marks_le_year m = omega (arith, length_marks m, m.year)
-
 -- the day after the first i days
 pub on_day_next : (xs : List Bool) (i : ℕ) → on_day xs (i + 1) ≡ slice_index_or xs i false
 on_day_next xs i = rw (add-one i) refl
@@ -38,39 +34,6 @@ pub on_day_bit : (m : Marks) (day : ℕ) → (day ≢ 0) → day ≤ m.days → 
 unfolding marks_of
 on_day_bit m zero some h = absurd (some refl)
 on_day_bit m (suc i) some h = get_or-map-range_with_len (flag m.words) 0 m.days i (suc i - 1) false (omega arith) (omega arith)
-
--- a day that the first marks, the second marks too
-pub on_day_under : (xs ys : List Bool) (d : ℕ) → Under xs ys → on_day xs d ≡ true → on_day ys d ≡ true
-on_day_under xs ys zero h e = e
-on_day_under [] [] (suc i) h e = e
-on_day_under [] (y ∷ ys) (suc i) h e = absurd h
-on_day_under (x ∷ xs) [] (suc i) h e = absurd h
-on_day_under (x ∷ xs) (y ∷ ys) (suc zero) h e = h.0 e
-on_day_under (x ∷ xs) (y ∷ ys) (suc (suc i)) h e = on_day_under xs ys (suc i) h.1 e
-
--- what is marked in the first n days
-pub on_day_take : (n : ℕ) (xs : List Bool) (d : ℕ) → d ≤ n → on_day (take n xs) d ≡ on_day xs d
-on_day_take n xs zero h = refl
-on_day_take n xs (suc i) h = get_or-take n xs i false (omega arith)
-
--- one more day leaves the days before it, and has its own mark
-pub on_day_kept : (xs : List Bool) (x : Bool) (d : ℕ) → d ≤ length xs → on_day (xs ++ x ∷ []) d ≡ on_day xs d
-on_day_kept xs x zero h = refl
-on_day_kept xs x (suc i) h = get_or_append_left xs (x ∷ []) false i (omega arith)
-
-pub on_day_push : (xs : List Bool) (x : Bool) → on_day (xs ++ x ∷ []) (length xs + 1) ≡ x
-on_day_push xs x = on_day_next (xs ++ x ∷ []) (length xs) ∙ get_or_push xs x false (length xs) refl
-
-pub under_same : (xs : List Bool) → Under xs xs
-under_same [] = tt
-under_same (x ∷ xs) = (λ e. e, under_same xs)
-
-pub under_take : (n : ℕ) (xs ys : List Bool) → Under xs ys → Under (take n xs) (take n ys)
-under_take zero xs ys h = tt
-under_take (suc n) [] [] h = tt
-under_take (suc n) [] (y ∷ ys) h = absurd h
-under_take (suc n) (x ∷ xs) [] h = absurd h
-under_take (suc n) (x ∷ xs) (y ∷ ys) h = (h.0, under_take n xs ys h.1)
 
 under_from_get_or : (xs ys : List Bool) → length xs ≡ length ys
     → ((i : ℕ) → i < length xs → slice_index_or xs i false ≡ true → slice_index_or ys i false ≡ true) → Under xs ys

@@ -7,8 +7,7 @@ use Rattle.std.proofs.lemmas.List.Sums.{sum_by-cons, length-filter}
 use Rattle.std.proofs.lemmas.Bool.{and_from, and_parts, and_right, lt-ltb, le-ltb}
 use Rattle.stage.specs.Marked.{on_day, Under}
 use Rattle.stage.specs.Rules.{days_where, in_window, rolling}
-use Rattle.stage.specs.Counts.{one_if, days_le, days_more, days_under, days_without}
-use Rattle.stage.specs.MarkLists.{on_day_under}
+use Rattle.stage.specs.LawProofs.Counts.{one_if, days_le, days_more, days_under, days_without, on_day_under}
 
 outside : (w : ℕ) (xs : List Bool) (n d : ℕ) → d + w ≤ n → in_window w xs n d ≡ false
 unfolding in_window

@@ -5,8 +5,7 @@ use Rattle.std.proofs.lemmas.List.Elements.{length_all_zip}
 use Rattle.std.proofs.lemmas.Bool.{cases_Bool, cases_eq, cases_lt, and_from, and_parts, and_left, and_right, not-true, not_from_true, not_from_false, leb-true, le-leb, lt-leb}
 use Rattle.stage.specs.Marked.{on_day, Under}
 use Rattle.stage.specs.Rules.{days_where, some_day, unmarked_after, gap_after, in_run, run_on, run}
-use Rattle.stage.specs.Counts.{one_if, one_le, days_none, days_more, days_le, days_under, days_same, days_without, some_from, some_found, none_from, none_at}
-use Rattle.stage.specs.MarkLists.{on_day_under}
+use Rattle.stage.specs.LawProofs.Counts.{one_if, one_le, days_none, days_more, days_le, days_under, days_same, days_without, some_from, some_found, none_from, none_at, on_day_under}
 
 -- the w days that follow day s are unmarked
 abbrev Unmarked : ℕ → List Bool → ℕ → Type 0
@@ -109,7 +108,7 @@ and_not_false : (x y : Bool) → y ≡ false → (x && not y) ≡ x
 and_not_false true y e = not_from_false y e
 and_not_false false y e = refl
 
-run_at_end : (w : ℕ) (xs : List Bool) (n : ℕ) → 0 < w → in_run w xs n n ≡ on_day xs n
+pub run_at_end : (w : ℕ) (xs : List Bool) (n : ℕ) → 0 < w → in_run w xs n n ≡ on_day xs n
 unfolding in_run
 run_at_end w xs n few = and_not_false (on_day xs n) (gap_after w xs n n) (no_gap_at_end w xs n few)
 
