@@ -10,6 +10,7 @@ use Rattle.settlement.specs.Positions.{stated_with, stated_open, excess}
 use Rattle.settlement.specs.Sheets.{Statements, Within, slots, slot_number, slot_place, sheet_size, on_sheet}
 use Rattle.settlement.proofs.Places.{number_below, place_below, slot_again, on_sheet_sent, on_sheet_unsent}
 use Rattle.settlement.proofs.Sums.{sumℤ-same}
+use Rattle.settlement.specs.Sums.{sumℕ}
 use Rattle.book.specs.Messages.{sent_after, word_after, sheet_after, flags_after, by_message, count_where, state_with, beyond_now, beyond_at}
 use Rattle.book.specs.States.{State, size, figures, today, day_quarters}
 use Rattle.book.proofs.Days.{quarters_fit}
@@ -60,7 +61,7 @@ stated_open_own S R f g t a h =
 
 -- tests that agree below n count alike and have the same first place
 pub count_same : (p r : ℕ → Bool) (n : ℕ) → ((k : ℕ) → k < n → p k ≡ r k) → count_where p n ≡ count_where r n
-unfolding count_where
+unfolding count_where sumℕ
 count_same p r zero h = refl
 count_same p r (suc n) h = let e = count_same p r n (λ k l. h k (omega arith)) in let x = h n (omega arith) in λ j. e j + cond (x j) 1 0
 

@@ -5,18 +5,19 @@ use Rattle.std.proofs.lemmas.List.Folds.{list_any-append}
 use Rattle.std.specs.Option.{option_map, option_or}
 use Rattle.message.proofs.Search.{range_more}
 use Rattle.message.specs.Places.{first_of, or_at}
+use Rattle.settlement.specs.Sums.{sumℕ}
 use Rattle.book.specs.Messages.{count_where}
 
 pub count_none : (p : ℕ → Bool) → count_where p 0 ≡ 0
-unfolding count_where
+unfolding count_where sumℕ
 count_none p = refl
 
 pub count_yes : (p : ℕ → Bool) (n : ℕ) → p n ≡ true → count_where p (n + 1) ≡ count_where p n + 1
-unfolding count_where
+unfolding count_where sumℕ
 count_yes p n e = rw (add-one n) (rw e refl)
 
 pub count_no : (p : ℕ → Bool) (n : ℕ) → p n ≡ false → count_where p (n + 1) ≡ count_where p n
-unfolding count_where
+unfolding count_where sumℕ
 count_no p n e = rw (add-one n) (rw e (add-zero (count_where p n)))
 
 pub first_yes : (p : ℕ → Bool) (n : ℕ) → p n ≡ true → first_of p (n + 1) ≡ or_at (first_of p n) true n

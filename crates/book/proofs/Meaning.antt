@@ -5,7 +5,7 @@ use Rattle.std.proofs.lemmas.Nat.{mul-add-lt, mul-le}
 use Rattle.std.proofs.lemmas.List.FromFn.{get_or-map-range_with_len}
 use Rattle.std.proofs.lemmas.List.{get_or-set_same, get_or-set_other, get_or_past, length-set}
 use Rattle.std.proofs.lemmas.Bool.{cases_eq, cases_lt, eq-eqb, ne_eqb, eqb-true, leb-true, and_parts, cond-true, cond-false}
-use Rattle.forms.specs.Checks.{Verdict, verdict, refuse_if}
+use Rattle.forms.specs.Checks.{Verdict, verdict, refuse_if, if_passed}
 use Rattle.forms.specs.Slots.{Slot}
 use Rattle.forms.specs.declared.fault.Fault.TheVariants.{WrongPhase, WrongBuffer, WrongGroup}
 use Rattle.forms.proofs.Firsts.{passed_left, passed_right, allowed}
@@ -14,7 +14,8 @@ use Rattle.settlement.specs.Sheets.{Within, slots, slot_number, slot_place, shee
 use Rattle.settlement.proofs.Places.{number_below, place_below}
 use Rattle.book.specs.Meant.{MessageStands, MessageFixesNothing}
 use Rattle.book.specs.Messages.{sent_after, word_after, sheet_after, flags_after, submit_check, sender_check, series_check, with_version, state_with, beyond_count}
-use Rattle.book.specs.Queries.{if_passed, one_of, day_check, group_check}
+use Rattle.std.specs.Int.{is_in_range}
+use Rattle.book.specs.Queries.{day_check, group_check}
 use Rattle.book.specs.Sheets.{sheet_fits, all_powers}
 use Rattle.book.specs.States.{State, GroupState, nothing_kept, size, kept, today, day_quarters, year_over, statements}
 use Rattle.book.proofs.Accepted.{own_statements}
@@ -70,9 +71,9 @@ module _ (s : State) (sheet form : List ℕ) (accepted : submit_check s sheet fo
       (passed_right (refuse_if (year_over s) WrongPhase) _ (passed_left (day_check s sheet) _ past_header)))
       ).0
 
-  sender_one : one_of (size s) (said form).group ≡ true
+  sender_one : is_in_range 1 (size s) (said form).group ≡ true
   sender_one =
-      allowed (one_of (size s) (said form).group) WrongGroup
+      allowed (is_in_range 1 (size s) (said form).group) WrongGroup
       (passed_left (group_check s (said form).group) _
       (passed_left (sender_check s (said form).group (said form).day (said form).version) _
       (passed_right (day_check s sheet) _ past_header)))

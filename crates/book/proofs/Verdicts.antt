@@ -3,10 +3,10 @@ use Rattle.std.proofs.Common.{◌≡◌, ℕ, ◌≤◌, Bool, true, not, Ok, Re
 use Rattle.std.specs.Result.{result_and}
 use Rattle.std.proofs.lemmas.Bool.Decides.{nat_tests}
 use Rattle.forms.specs.declared.fault.Fault.{Fault}
-use Rattle.forms.specs.Checks.{Verdict, refuse_if}
-use Rattle.book.specs.Queries.{one_of, answer_if}
+use Rattle.forms.specs.Checks.{Verdict, refuse_if, answer_if}
+use Rattle.std.specs.Int.{is_in_range}
 
-pub one_of_true : (n x : ℕ) → 1 ≤ x → x ≤ n → one_of n x ≡ true
+pub one_of_true : (n x : ℕ) → 1 ≤ x → x ≤ n → is_in_range 1 n x ≡ true
 one_of_true n x h k = grind (arith, nat_tests)
 
 -- a test that is met does not refuse

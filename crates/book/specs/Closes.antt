@@ -3,16 +3,15 @@ use Rattle.std.specs.Prelude.{◌≡◌, ℕ, ◌+◌, Bool, false, not, List, m
 use Rattle.std.specs.Result.{result_and}
 use Rattle.std.specs.List.{range_with_len}
 use Rattle.forms.specs.declared.fault.Fault.TheVariants.{WrongPhase, WrongBuffer}
-use Rattle.forms.specs.Checks.{Verdict, refuse_if}
+use Rattle.forms.specs.Checks.{Verdict, refuse_if, if_passed}
 use Rattle.forms.specs.Closings.{ClosingFormed, closing_sizes, closing_check, feed_in, long_price, short_price}
 use Rattle.stage.specs.Marked.{on_day}
 use Rattle.settlement.specs.declared.phase.Phase.TheVariants.{Ahead}
 use Rattle.settlement.specs.Amounts.{quarter_cost, day_cost, balance_amount}
 use Rattle.settlement.specs.Positions.{net_purchases}
-use Rattle.book.specs.Cuts.{is_after}
 use Rattle.book.specs.Rows.{Row}
-use Rattle.book.specs.Queries.{if_passed, day_check}
-use Rattle.book.specs.States.{State, GroupState, size, kept, today, day_quarters, statements}
+use Rattle.book.specs.Queries.{day_check}
+use Rattle.book.specs.States.{State, GroupState, size, kept, today, day_quarters, statements, is_after}
 use Rattle.book.specs.Sheets.{all_flags}
 
 -- What the caller lends a call.

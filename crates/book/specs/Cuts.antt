@@ -1,21 +1,16 @@
 -- What advance does.
-use Rattle.std.specs.Prelude.{ℕ, ◌+◌, Bool, true, false, List, [], ◌∷◌, ◌++◌, map}
+use Rattle.std.specs.Prelude.{ℕ, ◌+◌, Bool, List, [], ◌∷◌, ◌++◌, map}
 use Rattle.std.specs.Result.{result_and}
 use Rattle.std.specs.List.{range_with_len}
 use Rattle.forms.specs.declared.fault.Fault.TheVariants.{WrongPhase}
 use Rattle.forms.specs.Figures.{RateFigures}
-use Rattle.forms.specs.Checks.{Verdict, refuse_if}
+use Rattle.forms.specs.Checks.{Verdict, refuse_if, if_passed}
 use Rattle.settlement.specs.declared.phase.Phase.{Phase}
 use Rattle.settlement.specs.declared.phase.Phase.TheVariants.{Ahead, Near, After}
 use Rattle.settlement.specs.Positions.{day_excess}
 use Rattle.settlement.specs.Amounts.{is_marked, row_for, penalty}
-use Rattle.book.specs.Queries.{if_passed, day_check}
-use Rattle.book.specs.States.{State, GroupState, size, figures, kept, day_quarters, statements}
-
-abbrev pub is_after : Phase → Bool
-is_after Ahead = false
-is_after Near = false
-is_after After = true
+use Rattle.book.specs.Queries.{day_check}
+use Rattle.book.specs.States.{State, GroupState, size, figures, kept, is_after, day_quarters, statements}
 
 -- E of the current day
 abbrev pub excess_today : State → List ℕ → ℕ → ℕ

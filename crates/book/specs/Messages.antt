@@ -1,11 +1,11 @@
 -- What submit does.
-use Rattle.std.specs.Prelude.{◌≡◌, ℕ, zero, suc, ◌+◌, ◌-◌, ◌*◌, ◌/◌, ◌%◌, ◌<◌, Bool, false, cond, not, ◌&&◌, ◌||◌, List, map, length, is_some, Ok, Err, Option, Result, ◌==◌, nat_le, nat_lt, slice_index, slice_index_or, slice_set}
+use Rattle.std.specs.Prelude.{◌≡◌, ℕ, ◌+◌, ◌-◌, ◌*◌, ◌/◌, ◌%◌, ◌<◌, Bool, false, cond, not, ◌&&◌, ◌||◌, List, map, length, is_some, Ok, Err, Option, Result, ◌==◌, nat_le, nat_lt, slice_index, slice_index_or, slice_set}
 use Rattle.std.specs.Result.{result_and}
 use Rattle.std.specs.List.{range_with_len}
 use Rattle.std.specs.Option.{option_map}
 use Rattle.forms.specs.declared.fault.Fault.{Fault}
 use Rattle.forms.specs.declared.fault.Fault.TheVariants.{WrongDay, WrongVersion, MissingSeries, GrowingPosition}
-use Rattle.forms.specs.Checks.{Verdict, verdict, refuse_if, each_of}
+use Rattle.forms.specs.Checks.{Verdict, verdict, refuse_if, each_of, answer_if, if_passed}
 use Rattle.forms.specs.Slots.{Slot, cons, prod, pump}
 use Rattle.message.specs.Form.{Formed, header_of, said, value_at}
 use Rattle.message.specs.Heads.{heads_check}
@@ -13,16 +13,15 @@ use Rattle.message.specs.Values.{values_check}
 use Rattle.message.specs.Places.{first_of, sent_in, stated}
 use Rattle.settlement.specs.declared.phase.Phase.TheVariants.{After}
 use Rattle.settlement.specs.Positions.{stated_open, is_beyond, as_far_out}
+use Rattle.settlement.specs.Sums.{sumℕ}
 use Rattle.settlement.specs.Sheets.{Statements, slots, slot_at, words_per_slot}
 use Rattle.book.specs.declared.answers.Submitted.{Submitted}
-use Rattle.book.specs.Cuts.{is_after}
-use Rattle.book.specs.Queries.{answer_if, if_passed, day_check, group_check}
-use Rattle.book.specs.States.{State, GroupState, size, figures, kept, today, day_quarters, statements}
+use Rattle.book.specs.Queries.{day_check, group_check}
+use Rattle.book.specs.States.{State, GroupState, size, figures, kept, today, day_quarters, statements, is_after}
 
 -- how many of the numbers below n pass a test
 unfoldable pub count_where : (ℕ → Bool) → ℕ → ℕ
-count_where p zero = 0
-count_where p (suc n) = count_where p n + cond (p n) 1 0
+count_where p n = sumℕ (λ k. cond (p k) 1 0) n
 
 -- a message by itself: what the group that sends it says, and zero of every other
 unfoldable pub by_message : ℕ → ℕ → List ℕ → Statements
@@ -119,14 +118,17 @@ state_with s own version form = record {
   groups = slice_set s.groups own (with_version (kept s own) version);
 }
 
--- a quarter hour whose stated open position, by the sheet, is beyond the limit of the phase
-unfoldable pub beyond_now : State → List ℕ → ℕ → ℕ → Bool
-beyond_now s sheet own t = is_beyond (figures s own) s.phase (stated_open (statements s sheet) (figures s own) (size s) t own)
+-- a quarter hour in which group own's stated open position is beyond the limit of the phase
+abbrev beyond_by : Statements → State → ℕ → ℕ → Bool
+beyond_by S s own t = is_beyond (figures s own) s.phase (stated_open S (figures s own) (size s) t own)
 
--- a quarter hour whose stated open position, by the message, is beyond the limit of the phase
+-- the same by the sheet
+unfoldable pub beyond_now : State → List ℕ → ℕ → ℕ → Bool
+beyond_now s sheet own t = beyond_by (statements s sheet) s own t
+
+-- and by the message
 abbrev pub beyond_at : State → ℕ → List ℕ → ℕ → Bool
-beyond_at s own form t =
-    is_beyond (figures s own) s.phase (stated_open (by_message own (day_quarters s) form) (figures s own) (size s) t own)
+beyond_at s own form t = beyond_by (by_message own (day_quarters s) form) s own t
 
 -- how many there are, and the first, from 1
 abbrev pub beyond_count : State → ℕ → List ℕ → ℕ × Option ℕ

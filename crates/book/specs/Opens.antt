@@ -2,12 +2,11 @@
 use Rattle.std.specs.Prelude.{ℕ, false, not, List, length, replicate, Some, None, Option}
 use Rattle.std.specs.Result.{result_and}
 use Rattle.forms.specs.declared.fault.Fault.TheVariants.{WrongBuffer}
-use Rattle.forms.specs.Checks.{Verdict, refuse_if}
+use Rattle.forms.specs.Checks.{Verdict, refuse_if, if_passed}
 use Rattle.forms.specs.Figures.{Terms}
 use Rattle.forms.specs.Openings.{sizes_check, rows_check, groups_told, terms_of}
 use Rattle.settlement.specs.declared.phase.Phase.TheVariants.{Ahead}
 use Rattle.book.specs.declared.opened.Opened.{Opened}
-use Rattle.book.specs.Queries.{if_passed}
 use Rattle.book.specs.Sheets.{sheet_fits}
 use Rattle.book.specs.States.{State, nothing_kept, state_of}
 use Rattle.book.specs.Sheets.{all_flags}

@@ -1,9 +1,10 @@
 -- What the questions answer. None of them changes anything.
-use Rattle.std.specs.Prelude.{◌≡◌, ℕ, ◌-◌, ◌<◌, ◌≤◌, Bool, not, ◌&&◌, List, take, ℤ, Ok, Err, Result, ◌==◌, nat_le}
+use Rattle.std.specs.Prelude.{◌≡◌, ℕ, ◌-◌, ◌<◌, ◌≤◌, Bool, not, ◌&&◌, List, take, ℤ, Ok, Err, Result, ◌==◌}
+use Rattle.std.specs.Int.{is_in_range}
 use Rattle.std.specs.Result.{result_and}
 use Rattle.forms.specs.declared.fault.Fault.{Fault}
 use Rattle.forms.specs.declared.fault.Fault.TheVariants.{WrongPhase, WrongBuffer, WrongGroup, WrongDay, OutOfRange}
-use Rattle.forms.specs.Checks.{Verdict, refuse_if}
+use Rattle.forms.specs.Checks.{Verdict, refuse_if, answer_if, Finds}
 use Rattle.stage.specs.Marked.{on_day}
 use Rattle.settlement.specs.Positions.{stated_open, confirmed_open, net_purchases, confirmed}
 use Rattle.book.specs.declared.answers.Standing.{Standing}
@@ -11,25 +12,6 @@ use Rattle.book.specs.declared.answers.Total.{Total}
 use Rattle.book.specs.Kept.{cut_offs}
 use Rattle.book.specs.Sheets.{sheet_fits}
 use Rattle.book.specs.States.{State, size, figures, kept, day_quarters, year_over, statements}
-
--- the answer where the checks have passed, else their fault
-abbrev pub answer_if : {A : Type 0} → Verdict → A → Result A Fault
-answer_if (Ok _) x = Ok x
-answer_if (Err e) x = Err e
-
--- what stands after checks that passed, or what stood before
-abbrev pub if_passed : {A B : Type 0} → Result A Fault → B → B → B
-if_passed (Ok _) after before = after
-if_passed (Err e) after before = before
-
--- a number from 1 to n
-abbrev pub one_of : ℕ → ℕ → Bool
-one_of n x = nat_le 1 x && nat_le x n
-
--- what a test that finds something answers: what it found, of which P holds, or its fault
-abbrev pub Finds : {A : Type 0} → Result A Fault → Verdict → (A → Type 0) → Type 0
-Finds (Ok x) check P = (check ≡ Ok tt) × P x
-Finds (Err e) check P = check ≡ Err e
 
 -- a number that passed its check has a place from 0, below n
 abbrev pub Numbered : Result ℕ Fault → Verdict → ℕ → ℕ → Type 0
@@ -42,10 +24,10 @@ day_check s sheet =
     (refuse_if (not (sheet_fits (size s) sheet)) WrongBuffer)
 
 abbrev pub group_check : State → ℕ → Verdict
-group_check s group = refuse_if (not (one_of (size s) group)) WrongGroup
+group_check s group = refuse_if (not (is_in_range 1 (size s) group)) WrongGroup
 
 abbrev pub quarter_check : State → ℕ → Verdict
-quarter_check s quarter = refuse_if (not (one_of (day_quarters s) quarter)) (OutOfRange 0 0)
+quarter_check s quarter = refuse_if (not (is_in_range 1 (day_quarters s) quarter)) (OutOfRange 0 0)
 
 -- Group and quarter hour, from 1: the stated open position, the confirmed one, and the confirmed net purchases.
 abbrev pub position_check : State → List ℕ → ℕ → ℕ → Verdict
@@ -67,7 +49,7 @@ position_answer s sheet group quarter = answer_if (position_check s sheet group 
 abbrev pub trade_check : State → List ℕ → ℕ → ℕ → ℕ → Verdict
 trade_check s sheet from to quarter =
     result_and (day_check s sheet)
-    (result_and (refuse_if (not (one_of (size s) from && one_of (size s) to && not (from == to))) WrongGroup) (quarter_check s quarter))
+    (result_and (refuse_if (not (is_in_range 1 (size s) from && is_in_range 1 (size s) to && not (from == to))) WrongGroup) (quarter_check s quarter))
 
 abbrev pub trade_answer : State → List ℕ → ℕ → ℕ → ℕ → Result ℕ Fault
 trade_answer s sheet from to quarter =
@@ -77,7 +59,7 @@ trade_answer s sheet from to quarter =
 abbrev pub standing_check : State → ℕ → ℕ → Verdict
 standing_check s group day =
     result_and (group_check s group)
-    (refuse_if (not (one_of (cut_offs s.closed s.phase) day)) WrongDay)
+    (refuse_if (not (is_in_range 1 (cut_offs s.closed s.phase) day)) WrongDay)
 
 abbrev pub standing_answer : (List Bool → ℕ) → State → ℕ → ℕ → Result (Bool × ℕ) Fault
 standing_answer m s group day =

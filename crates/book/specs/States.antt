@@ -1,10 +1,11 @@
 -- What a book stands for. Groups and quarter hours count from 0, days from 1.
-use Rattle.std.specs.Prelude.{ℕ, ◌+◌, Bool, false, List, [], map, length, take, ℤ, pos, nat_le, slice_index_or}
+use Rattle.std.specs.Prelude.{ℕ, ◌+◌, Bool, true, false, List, [], map, length, take, ℤ, pos, nat_le, slice_index_or}
 use Rattle.forms.specs.Calendar.{year_days, quarters}
 use Rattle.forms.specs.Figures.{GroupFigures, Terms}
 use Rattle.forms.specs.Openings.{terms_in}
 use Rattle.stage.specs.Marked.{marks_of}
 use Rattle.settlement.specs.declared.phase.Phase.{Phase}
+use Rattle.settlement.specs.declared.phase.Phase.TheVariants.{Ahead, Near, After}
 use Rattle.settlement.specs.Sheets.{Statements, on_sheet}
 use Rattle.book.specs.declared.group_account.GroupAccount.{GroupAccount}
 use Rattle.book.specs.declared.ledger.Ledger.{Ledger}
@@ -70,6 +71,12 @@ today s = s.closed + 1
 
 abbrev pub day_quarters : State → ℕ
 day_quarters s = quarters (today s)
+
+-- the cut-off of the current day is past
+abbrev pub is_after : Phase → Bool
+is_after Ahead = false
+is_after Near = false
+is_after After = true
 
 -- all days are closed
 abbrev pub year_over : State → Bool

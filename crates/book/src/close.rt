@@ -3,7 +3,7 @@ ghost use Rattle.std.specs.Prelude.{◌≡◌, ℕ, ◌+◌, ◌*◌, ◌≤◌,
 ghost use Rattle.forms.specs.Calendar.{year_days};
 ghost use Rattle.book.specs.Closes.{day_rows, day_done, day_closed, close_check, closed_by};
 ghost use Rattle.book.specs.Kept.{days_in, penalties_in, balance_in, most_balance};
-ghost use Rattle.book.specs.Queries.{Finds};
+ghost use Rattle.forms.specs.Checks.{Finds};
 ghost use Rattle.book.specs.Rows.{row_of, amount_in, balance_in_row};
 ghost use Rattle.book.specs.States.{state_of, account_of, size};
 

@@ -3,7 +3,8 @@ ghost use Rattle.forms.specs.Checks.{refuse_if};
 ghost use Rattle.std.specs.Prelude.{not, ◌≡◌, ◌+◌, ◌-◌, ◌<◌, ◌≤◌, map, length};
 ghost use Rattle.stage.specs.Marked.{marks_of};
 ghost use Rattle.book.specs.Kept.{cut_offs};
-ghost use Rattle.book.specs.Queries.{Numbered, one_of, group_check, quarter_check, position_answer, trade_answer, standing_answer, total_answer, standing_of, total_of};
+ghost use Rattle.std.specs.Int.{is_in_range};
+ghost use Rattle.book.specs.Queries.{Numbered, group_check, quarter_check, position_answer, trade_answer, standing_answer, total_answer, standing_of, total_of};
 ghost use Rattle.book.specs.States.{state_of, size, kept, day_quarters, account_of};
 
 use crate::answers::{Standing, Total};
@@ -15,7 +16,7 @@ use stage::rule::StageRule;
 
 /// The place, from 0, of a number from 1 to `most`, or the fault.
 fn numbered(number: u16, most: usize, fault: Fault) -> Result<usize, Fault>
-    ensures { Numbered result (refuse_if (not (one_of most number)) fault) number most }
+    ensures { Numbered result (refuse_if (not (is_in_range 1 most number)) fault) number most }
 {
     usize::from(number)
         .checked_sub(1)

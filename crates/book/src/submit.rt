@@ -2,7 +2,7 @@
 ghost use Rattle.std.specs.Prelude.{◌≡◌, ◌-◌, ◌<◌};
 ghost use Rattle.message.specs.Form.{said};
 ghost use Rattle.book.specs.Messages.{sender_check, series_check, submit_check, submitted, submitted_of};
-ghost use Rattle.book.specs.Queries.{Finds};
+ghost use Rattle.forms.specs.Checks.{Finds};
 ghost use Rattle.book.specs.States.{state_of, size};
 
 use crate::answers::Submitted;

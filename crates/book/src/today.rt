@@ -5,7 +5,8 @@ ghost use Rattle.book.specs.Sheets.{all_flags};
 ghost use Rattle.forms.specs.Figures.{figures_of};
 ghost use Rattle.settlement.specs.Sheets.{slots, sheet_size, words_per_slot};
 ghost use Rattle.book.specs.Kept.{cut_offs, days_in, penalties_in, balance_in, most_penalty, most_balance};
-ghost use Rattle.book.specs.Queries.{Finds, day_check};
+ghost use Rattle.book.specs.Queries.{day_check};
+ghost use Rattle.forms.specs.Checks.{Finds};
 ghost use Rattle.book.specs.States.{state_of, size, figures, kept, account_of, today, day_quarters, year_over};
 
 use crate::group_account::GroupAccount;

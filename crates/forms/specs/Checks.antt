@@ -16,6 +16,21 @@ verdict (Err e) = Err e
 abbrev pub refuse_if : Bool → Fault → Verdict
 refuse_if b e = cond b (Err e) (Ok tt)
 
+-- the answer where the checks have passed, else their fault
+abbrev pub answer_if : {A : Type 0} → Verdict → A → Result A Fault
+answer_if (Ok _) x = Ok x
+answer_if (Err e) x = Err e
+
+-- what stands after checks that passed, or what stood before
+abbrev pub if_passed : {A B : Type 0} → Result A Fault → B → B → B
+if_passed (Ok _) after before = after
+if_passed (Err e) after before = before
+
+-- what a test that finds something answers: what it found, of which P holds, or its fault
+abbrev pub Finds : {A : Type 0} → Result A Fault → Verdict → (A → Type 0) → Type 0
+Finds (Ok x) check P = (check ≡ Ok tt) × P x
+Finds (Err e) check P = check ≡ Err e
+
 -- the checks of 0, 1, .., n - 1 in this order
 unfoldable pub each_of : (ℕ → Verdict) → ℕ → Verdict
 each_of f zero = Ok tt

@@ -8,7 +8,7 @@ use Rattle.std.proofs.lemmas.Bool.Decides.{nat_tests}
 use Rattle.std.specs.Result.{result_and}
 use Rattle.forms.specs.declared.fault.Fault.TheVariants.{WrongGroup, WrongDay, OutOfRange}
 use Rattle.forms.specs.Calendar.{quarters}
-use Rattle.forms.specs.Checks.{refuse_if}
+use Rattle.forms.specs.Checks.{refuse_if, answer_if}
 use Rattle.forms.proofs.Firsts.{passed_left, passed_right, allowed}
 use Rattle.message.specs.Form.{said}
 use Rattle.message.specs.Places.{first_of, stated}
@@ -20,7 +20,8 @@ use Rattle.settlement.proofs.Agreement.{confirmed_same, net_purchases_same, stat
 use Rattle.book.specs.Closes.{day_row, day_rows}
 use Rattle.book.specs.Kept as state-kept
 use Rattle.book.specs.Messages.{submit_check, by_message, beyond_at, beyond_count, count_where}
-use Rattle.book.specs.Queries.{one_of, day_check, group_check, quarter_check, position_check, position_of, trade_check, standing_check, answer_if, standing_answer, total_answer}
+use Rattle.std.specs.Int.{is_in_range}
+use Rattle.book.specs.Queries.{day_check, group_check, quarter_check, position_check, position_of, trade_check, standing_check, standing_answer, total_answer}
 use Rattle.book.specs.Rows.{Row}
 use Rattle.book.specs.States.{State, size, figures, kept, day_quarters, statements}
 use Rattle.book.proofs.Accepted.{stated_open_own, count_same, first_same}
@@ -36,7 +37,7 @@ use Rattle.journal.proofs.Parts.{on_day_mark}
 use Rattle.journal.proofs.Sending.{says_sender, same_closes, same_advances}
 
 -- a number from 1 to n
-one_below : (n x : ℕ) → one_of n x ≡ true → (1 ≤ x) × (x - 1 < n)
+one_below : (n x : ℕ) → is_in_range 1 n x ≡ true → (1 ≤ x) × (x - 1 < n)
 one_below n x h =
     let p = and_parts (leb 1 x) (leb x n) h in
     let l = leb-true 1 x p.0 in
@@ -51,11 +52,11 @@ phase_again After = refl
 
 module _ (m : Meaning) (s : State) (w : List ℕ) (j : Journal) (k : Keeps m j s w) where
   group_there : (group : ℕ) → group_check s group ≡ Ok tt → group - 1 < size s
-  group_there group h = (one_below (size s) group (allowed (one_of (size s) group) WrongGroup h)).1
+  group_there group h = (one_below (size s) group (allowed (is_in_range 1 (size s) group) WrongGroup h)).1
 
   quarter_there : (quarter : ℕ) → quarter_check s quarter ≡ Ok tt → quarter - 1 < quarters (journals.today j)
   quarter_there quarter h =
-      omega (arith, (one_below (day_quarters s) quarter (allowed (one_of (day_quarters s) quarter) (OutOfRange 0 0) h)).1, ap (λ n. quarters (n + 1)) k.closed)
+      omega (arith, (one_below (day_quarters s) quarter (allowed (is_in_range 1 (day_quarters s) quarter) (OutOfRange 0 0) h)).1, ap (λ n. quarters (n + 1)) k.closed)
 
   pub position_right : (group quarter : ℕ) → position_check s w group quarter ≡ Ok tt
       → position_of s w (group - 1) (quarter - 1)
@@ -77,9 +78,9 @@ module _ (m : Meaning) (s : State) (w : List ℕ) (j : Journal) (k : Keeps m j s
   trade_right from to quarter h =
       let g = size s in
       let rest = passed_right (day_check s w) _ h in
-      let groups = refuse_if (not (one_of g from && one_of g to && not (eqb from to))) WrongGroup in
-      let named = (and_parts (one_of g from && one_of g to) (not (eqb from to)) (allowed (one_of g from && one_of g to && not (eqb from to)) WrongGroup (passed_left groups _ rest))).0 in
-      let both = and_parts (one_of g from) (one_of g to) named in
+      let groups = refuse_if (not (is_in_range 1 g from && is_in_range 1 g to && not (eqb from to))) WrongGroup in
+      let named = (and_parts (is_in_range 1 g from && is_in_range 1 g to) (not (eqb from to)) (allowed (is_in_range 1 g from && is_in_range 1 g to && not (eqb from to)) WrongGroup (passed_left groups _ rest))).0 in
+      let both = and_parts (is_in_range 1 g from) (is_in_range 1 g to) named in
       confirmed_same g (statements s w) (says j) (quarter - 1) (from - 1) (to - 1)
       (k.agree (quarter - 1) (quarter_there quarter (passed_right groups _ rest)))
       (one_below g from both.0).1 (one_below g to both.1).1
@@ -103,7 +104,7 @@ module _ (m : Meaning) (s : State) (w : List ℕ) (j : Journal) (k : Keeps m j s
       let a = group - 1 in
       let there = group_there group (passed_left (group_check s group) _ h) in
       let c = state-kept.cut_offs s.closed s.phase in
-      let d = one_below c day (allowed (one_of c day) WrongDay (passed_right (group_check s group) _ h)) in
+      let d = one_below c day (allowed (is_in_range 1 c day) WrongDay (passed_right (group_check s group) _ h)) in
       let below : day ≤ cut_offs j = omega (arith, passed, d.0, d.1) in
       let xs = k.marks a there in
       let x = ap (λ ys. on_day ys day) xs ∙ on_day_mark s.terms j a (cut_offs j) day d.0 below in
@@ -121,8 +122,8 @@ module _ (m : Meaning) (s : State) (w : List ℕ) (j : Journal) (k : Keeps m j s
   -- what standing and total answer next
   pub standing_next : (a day : ℕ) → a < size s → 1 ≤ day → day ≤ cut_offs j → standing_answer m s (a + 1) day ≡ Ok (mark s.terms j a day, stage m s.terms j a day)
   standing_next a day there low high =
-      let known : one_of (size s) (a + 1) ≡ true = grind (arith, nat_tests) in
-      let cut : one_of (state-kept.cut_offs s.closed s.phase) day ≡ true = grind (arith, nat_tests, passed) in
+      let known : is_in_range 1 (size s) (a + 1) ≡ true = grind (arith, nat_tests) in
+      let cut : is_in_range 1 (state-kept.cut_offs s.closed s.phase) day ≡ true = grind (arith, nat_tests, passed) in
       let named : standing_check s (a + 1) day ≡ Ok tt = λ i. result_and (refuse_if (not (known i)) WrongGroup) (refuse_if (not (cut i)) WrongDay) in
       let back : a + 1 - 1 ≡ a = omega arith in
       ap (λ v. answer_if v (on_day (kept s (a + 1 - 1)).marks day, m (take day (kept s (a + 1 - 1)).marks))) named
@@ -130,7 +131,7 @@ module _ (m : Meaning) (s : State) (w : List ℕ) (j : Journal) (k : Keeps m j s
 
   pub total_next : (a : ℕ) → a < size s → total_answer s (a + 1) ≡ Ok (penalties m s.terms j a, balance s.terms j a)
   total_next a there =
-      let known : one_of (size s) (a + 1) ≡ true = grind (arith, nat_tests) in
+      let known : is_in_range 1 (size s) (a + 1) ≡ true = grind (arith, nat_tests) in
       let named : group_check s (a + 1) ≡ Ok tt = λ i. refuse_if (not (known i)) WrongGroup in
       let back : a + 1 - 1 ≡ a = omega arith in
       ap (λ v. answer_if v ((kept s (a + 1 - 1)).penalties, (kept s (a + 1 - 1)).balance)) named

@@ -2,7 +2,7 @@
 use Rattle.std.proofs.Common.{◌≡◌, ℕ, ◌<◌, Bool, true, false, List, [], ◌∷◌, ◌++◌, length, replicate, ℤ, pos, nat_abs, Some, None, Ok, sym, refl, ap, ◌∙◌, arith}
 use Rattle.std.proofs.lemmas.Bool.{le-leb}
 use Rattle.forms.specs.Calendar.{quarters}
-use Rattle.forms.specs.Checks.{each_of}
+use Rattle.forms.specs.Checks.{each_of, if_passed}
 use Rattle.forms.specs.Figures.{Terms}
 use Rattle.forms.specs.Openings.{terms_of, group_at, row_at}
 use Rattle.message.specs.Form.{value_at}
@@ -17,7 +17,7 @@ use Rattle.settlement.specs.Sums.{sumℕ, sumℤ}
 use Rattle.book.specs.Cuts.{cut_off, past_cut_off}
 use Rattle.book.specs.Messages.{submit_check, beyond_count, state_with, sheet_after, flags_after, by_message, count_where}
 use Rattle.book.specs.Opens.{open_check, new_book}
-use Rattle.book.specs.Queries.{if_passed, day_check, standing_answer, total_answer}
+use Rattle.book.specs.Queries.{day_check, standing_answer, total_answer}
 use Rattle.book.specs.Sheets.{all_powers}
 use Rattle.book.specs.States.{State, GroupState, nothing_kept}
 use Rattle.book.proofs.Submitting.{submit_accepted}
@@ -80,7 +80,7 @@ unfolding reading
 message_checked = refl
 
 counted : (96, Some 1) ≡ beyond_count new 0 message
-unfolding reading count_where by_message stated_open stated_with sumℤ
+unfolding reading count_where sumℕ by_message stated_open stated_with sumℤ
 counted = refl
 
 state_sent : sent ≡ state_with new 0 1 message

@@ -3,7 +3,7 @@ use Rattle.std.proofs.Common.{◌≡◌, ℕ, ◌+◌, ◌/◌, ◌<◌, Bool, f
 use Rattle.std.proofs.lemmas.List.{get_or-replicate, length-replicate}
 use Rattle.std.proofs.lemmas.Bool.{eqb-true, and_parts}
 use Rattle.forms.specs.declared.fault.Fault.TheVariants.{WrongBuffer}
-use Rattle.forms.specs.Checks.{refuse_if}
+use Rattle.forms.specs.Checks.{refuse_if, if_passed}
 use Rattle.forms.specs.Openings.{sizes_check, groups_told, terms_of, LawfulTerms}
 use Rattle.forms.specs.Slots.{Slot}
 use Rattle.forms.proofs.Firsts.{passed_left, passed_right, allowed}
@@ -13,7 +13,6 @@ use Rattle.settlement.specs.Sheets.{slot_place, sheet_size}
 use Rattle.settlement.specs.Sums.{sumℕ, sumℤ}
 use Rattle.settlement.proofs.Places.{on_sheet_unsent}
 use Rattle.settlement.proofs.Sums.{sumℕ-none, sumℤ-none}
-use Rattle.book.specs.Queries.{if_passed}
 use Rattle.book.specs.Opens.{new_book, open_check, opened_by}
 use Rattle.book.specs.Sheets.{sheet_fits, all_powers}
 use Rattle.book.specs.States.{State, nothing_kept, kept, statements}

@@ -1,8 +1,7 @@
 -- What an answer says of the tests behind it.
 use Rattle.std.proofs.Common.{◌≡◌, ℕ, Ok, Err, refl, arith}
 use Rattle.forms.specs.declared.fault.Fault.{Fault}
-use Rattle.forms.specs.Checks.{Verdict}
-use Rattle.book.specs.Queries.{answer_if}
+use Rattle.forms.specs.Checks.{Verdict, answer_if}
 
 pub passed_by : {A : Type 0} (v : Verdict) (x y : A) → Ok x ≡ answer_if v y → v ≡ Ok tt
 passed_by (Ok _) x y h = refl

@@ -2,13 +2,13 @@
 use Rattle.std.proofs.Common.{◌≡◌, ℕ, List, [], ◌∷◌, map, length, replicate, Some, None, Ok, Err, Result, sym, refl, ap, ◌∙◌}
 use Rattle.std.proofs.lemmas.List.{length-replicate}
 use Rattle.forms.specs.declared.fault.Fault.{Fault}
-use Rattle.forms.specs.Checks.{Verdict}
+use Rattle.forms.specs.Checks.{Verdict, if_passed, answer_if}
 use Rattle.forms.specs.Openings.{terms_of}
 use Rattle.book.specs.Closes.{Lent, close_check, balance_today, day_closed, day_rows, closed_by}
 use Rattle.book.specs.Cuts.{advanced}
 use Rattle.book.specs.Messages.{submitted}
 use Rattle.book.specs.Opens.{new_book, open_check, opened_by}
-use Rattle.book.specs.Queries.{if_passed, answer_if, position_answer, trade_answer, standing_answer, total_answer}
+use Rattle.book.specs.Queries.{position_answer, trade_answer, standing_answer, total_answer}
 use Rattle.book.specs.Rows.{Row, no_row}
 use Rattle.book.specs.States.{State}
 use Rattle.journal.specs.Books.{Own, Stepped, Brings}

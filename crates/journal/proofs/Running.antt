@@ -2,7 +2,7 @@
 use Rattle.std.proofs.Common.{◌≡◌, ℕ, ◌-◌, ◌<◌, true, false, not, List, [], ◌∷◌, length, replicate, ℤ, Ok, Err, sym, refl, ap, ◌∙◌, subst, arith}
 use Rattle.std.proofs.lemmas.List.{length-replicate}
 use Rattle.forms.specs.declared.fault.Fault.TheVariants.{WrongPhase}
-use Rattle.forms.specs.Checks.{refuse_if}
+use Rattle.forms.specs.Checks.{refuse_if, if_passed}
 use Rattle.forms.specs.Closings.{closing_sizes}
 use Rattle.forms.specs.Figures.{Terms}
 use Rattle.forms.specs.Openings.{terms_of}
@@ -11,11 +11,11 @@ use Rattle.forms.proofs.Firsts.{passed_left, passed_right, unrefused, allowed}
 use Rattle.settlement.specs.declared.phase.Phase.{Phase}
 use Rattle.settlement.specs.declared.phase.Phase.TheVariants.{Ahead, Near, After}
 use Rattle.book.specs.Closes.{Lent, close_check, balance_today, day_closed, day_rows}
-use Rattle.book.specs.Cuts.{advance_check, advanced, is_after, next_phase, cut_off}
+use Rattle.book.specs.Cuts.{advance_check, advanced, next_phase, cut_off}
 use Rattle.book.specs.Messages.{submit_check, submitted, state_with, beyond_count}
 use Rattle.book.specs.Opens.{new_book}
-use Rattle.book.specs.Queries.{if_passed, group_check, position_check, position_answer, trade_check, trade_answer, standing_check}
-use Rattle.book.specs.States.{State, size, day_quarters}
+use Rattle.book.specs.Queries.{group_check, position_check, position_answer, trade_check, trade_answer, standing_check}
+use Rattle.book.specs.States.{State, size, day_quarters, is_after}
 use Rattle.journal.specs.Books.{Stepped, Brings}
 use Rattle.journal.specs.Journals.{Entry, submit, advance, close, position, trade, standing, total, Journal}
 use Rattle.journal.specs.Reckoned.{Meaning, Right, AllRight}

@@ -5,7 +5,8 @@ use Rattle.book.specs.Closes.{closed_by}
 use Rattle.book.specs.Cuts.{advanced}
 use Rattle.book.specs.Messages.{submitted}
 use Rattle.book.specs.Opens.{opened_by}
-use Rattle.book.specs.Queries.{answer_if, if_passed, position_answer, trade_answer, standing_answer, total_answer}
+use Rattle.book.specs.Queries.{position_answer, trade_answer, standing_answer, total_answer}
+use Rattle.forms.specs.Checks.{answer_if, if_passed}
 use Rattle.book.specs.Rows.{Row}
 use Rattle.book.specs.States.{State}
 use Rattle.journal.specs.Journals.{Entry, submit, advance, close, position, trade, standing, total, Journal}

@@ -12,7 +12,7 @@ use Rattle.book.specs.Rows.{no_row}
 use Rattle.session.specs.Replies.{Told, stop, refused, done, plainly, message_told, close_told}
 use Rattle.session.specs.declared.letter.Letter.TheVariants.{Rule, Opening, Message, Advance}
 use Rattle.session.specs.Letters.{code_of}
-use Rattle.session.specs.Stops.{stops_for}
+use Rattle.session.specs.Stops.{account_groups, stops_for}
 use Rattle.session.specs.Views.{Meaning, SessionState}
 
 -- R: a rule
@@ -32,16 +32,6 @@ if_opened_for most s body (Err e, place, sheet) = (refused e, s)
 
 abbrev pub book_opened_for : ℕ → Meaning → SessionState → List ℕ → Told × SessionState
 book_opened_for most m s body = if_opened_for most s body (opened_by s.place m body (replicate (sheet_size (groups_served_for most body)) 0))
-
--- the same where the program serves eight groups
-abbrev pub groups_served : List ℕ → ℕ
-groups_served body = groups_served_for 8 body
-
-abbrev pub if_opened : SessionState → List ℕ → Verdict × Place Meaning × List ℕ → Told × SessionState
-if_opened s body opened = if_opened_for 8 s body opened
-
-abbrev pub book_opened : Meaning → SessionState → List ℕ → Told × SessionState
-book_opened m s body = book_opened_for 8 m s body
 
 -- S: a message
 abbrev pub message_sent : SessionState → List ℕ → Told × SessionState
@@ -77,9 +67,6 @@ taken_for most s letter body =
 abbrev pub stepped_for : ℕ → SessionState → ℕ → List ℕ → Told × SessionState
 stepped_for most s letter body = cond (stops_for most (is_some s.rule) (is_some s.place) letter body) (stop, s) (taken_for most s letter body)
 
--- the same where the program serves eight groups
-abbrev pub taken_by_letter : SessionState → ℕ → List ℕ → Told × SessionState
-taken_by_letter s letter body = taken_for 8 s letter body
-
+-- the same for the program account
 abbrev pub stepped : SessionState → ℕ → List ℕ → Told × SessionState
-stepped s letter body = stepped_for 8 s letter body
+stepped s letter body = stepped_for account_groups s letter body

@@ -5,13 +5,13 @@ use Rattle.forms.specs.Bytes.{byte}
 use Rattle.session.specs.declared.letter.Letter.TheVariants.{Rule, Opening, Message, Advance, Closing}
 use Rattle.session.specs.Letters.{code_of}
 
--- an opening form for more groups than the program serves, which are at most so many, and no more than a book can have
+-- how many groups the program account serves at most
+abbrev pub account_groups : ℕ
+account_groups = 8
+
+-- an opening form for more groups than a program serves, which are at most so many, and no more than a book can have
 abbrev pub too_many_for : ℕ → List ℕ → Bool
 too_many_for most body = nat_lt 0 (length body) && (nat_le (most + 1) (byte body 0) && nat_le (byte body 0) most_groups)
-
--- the same where it serves eight
-abbrev pub too_many_groups : List ℕ → Bool
-too_many_groups body = too_many_for 8 body
 
 -- A rule form comes once, an opening form once and after it, and all others after that; an advance has no body. The letters are R, O, S, A, C.
 abbrev pub stops_for : ℕ → Bool → Bool → ℕ → List ℕ → Bool
@@ -20,6 +20,3 @@ stops_for most ruled opened letter body =
     (cond (letter == code_of Opening) (not ruled || (opened || too_many_for most body))
     (cond (letter == code_of Message || letter == code_of Closing) (not opened)
     (cond (letter == code_of Advance) (not opened || nat_lt 0 (length body)) true)))
-
-abbrev pub stops : Bool → Bool → ℕ → List ℕ → Bool
-stops ruled opened letter body = stops_for 8 ruled opened letter body

@@ -8,7 +8,7 @@ ghost use Rattle.session.specs.Letters.{code_of};
 ghost use Rattle.session.specs.declared.letter.Letter.TheVariants.{Opening};
 ghost use Rattle.session.specs.Replies.{told_by, told_in};
 ghost use Rattle.session.specs.Steps.{groups_served_for, rule_made, by_rule, message_sent, phase_moved, day_ended, stepped_for, stepped};
-ghost use Rattle.session.specs.Stops.{stops_for, too_many_for, too_many_groups};
+ghost use Rattle.session.specs.Stops.{stops_for, too_many_for};
 ghost use Rattle.session.specs.Views.{view_of};
 
 use crate::letter::Letter;
@@ -21,13 +21,6 @@ use forms::fault::Fault;
 use settlement::sheet::sheet_size;
 use stage::any_rule::rule;
 use std::alloc::{AllocError, Global};
-
-/// Whether an opening form is for more groups than the program `account` serves.
-pub fn too_many_groups(body: &[u8]) -> bool
-    ensures { result ≡ too_many_groups body.now }
-{
-    too_many_for(MOST_GROUPS, body)
-}
 
 /// Whether an opening form is for more groups than a program serves, which are at most `most`.
 fn too_many_for(most: u8, body: &[u8]) -> bool

@@ -63,7 +63,7 @@ not_under r s e = (grind (arith, nat_tests), grind (arith, nat_tests))
 rows_under : (tariff : List RateFigures) (s s' : ℕ) → NeverFalls tariff → s ≤ s' → Under (row_for tariff s) (row_for tariff s')
 rows_under [] s s' h l = (omega arith, omega arith)
 rows_under (r ∷ rest) s s' h l =
-    not_under (row_for (r ∷ rest) s) (row_for (r ∷ rest) s') (h (min s (length rest)) (min s' (length rest)) no_rates (omega arith) (omega arith))
+    not_under (row_for (r ∷ rest) s) (row_for (r ∷ rest) s') (h (min s (length (r ∷ rest) - 1)) (min s' (length (r ∷ rest) - 1)) no_rates (omega arith) (omega arith))
 
 penalty_under : (r s : RateFigures) (E E' : ℕ) → Under r s → E ≤ E' → penalty r E ≤ penalty s E'
 penalty_under r s E E' u l =
