@@ -54,15 +54,17 @@ fn program(path: &str, arguments: &[&str], input: &[u8]) -> Output {
 
 /// The lines that the comments of a description tell.
 fn told(text: &str) -> String {
-    let (mut told, mut repeated, mut times) = (String::new(), String::new(), 0);
+    let (mut told, mut repeated, mut turns) = (String::new(), String::new(), None);
     for line in text.lines() {
-        if let Some(number) = line.strip_prefix("repeat ") {
-            times = number.parse().unwrap();
+        if let Some(numbers) = line.strip_prefix("repeat ") {
+            let (from, to) = numbers.split_once('-').unwrap_or(("1", numbers));
+            turns = Some(from.parse::<u32>().unwrap()..=to.parse().unwrap());
         } else if line == "end" {
-            (1..=times).for_each(|turn: u32| told += &repeated.replace('@', &turn.to_string()));
-            times = 0;
+            let turns = turns.take().unwrap();
+            turns.for_each(|turn| told += &repeated.replace('@', &turn.to_string()));
+            repeated.clear();
         } else if let Some((_, answer)) = line.split_once("# -> ") {
-            let lines = if times > 0 { &mut repeated } else { &mut told };
+            let lines = if turns.is_some() { &mut repeated } else { &mut told };
             lines.push_str(answer);
             lines.push('\n');
         }
@@ -93,6 +95,30 @@ fn stored_sessions() {
         assert_eq!(fs::read_to_string(&lines).unwrap(), expected, "{name}: lines");
         let output = second(&frames);
         assert_eq!(String::from_utf8(output.stdout).unwrap(), expected, "{name}");
+        assert!(output.status.success() && output.stderr.is_empty(), "{name}");
+    }
+}
+
+/// The sessions that the crates of `inquiry` have: each its text, bytes, arguments and lines.
+#[test]
+fn stored_sessions_of_inquiry() {
+    let here = Path::new(env!("CARGO_MANIFEST_DIR"));
+    for (name, text) in [
+        ("inquiry", "../crates/inquiry/session.txt"),
+        ("inquiry_sixteen", "../crates/inquiry_sixteen/session.txt"),
+        ("inquiry_year", "sessions/year.txt"),
+    ] {
+        let folder = here.join("../crates").join(name);
+        let frames = frames_of(&here.join(text));
+        let arguments = fs::read_to_string(folder.join("args")).unwrap();
+        let arguments: Vec<&str> = arguments.split_whitespace().collect();
+        let output = program(INQUIRY, &arguments, &frames);
+        if std::env::var_os("WRITE").is_some() {
+            fs::write(folder.join("stdin"), &frames).unwrap();
+            fs::write(folder.join("stdout"), &output.stdout).unwrap();
+        }
+        assert!(fs::read(folder.join("stdin")).unwrap() == frames, "{name}: bytes");
+        assert!(fs::read(folder.join("stdout")).unwrap() == output.stdout, "{name}: lines");
         assert!(output.status.success() && output.stderr.is_empty(), "{name}");
     }
 }
@@ -274,6 +300,7 @@ fn faulty_descriptions_are_told() {
         ("message cons=4294967296\n", "32 bits"),
         ("open metered=1,2,3\n", "not 5 numbers"),
         ("repeat 3\nadvance\n", "without end"),
+        ("repeat 3-2\nadvance\nend\n", "no turns"),
         ("bytes 1\n", "hex"),
         ("  advance\n", "continues nothing"),
         ("message what=1\n", "no field what"),

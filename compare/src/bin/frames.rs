@@ -37,6 +37,7 @@
 //!
 //!     repeat N                the lines up to 'end' N times; @ in them stands for the number
 //!     end                     of the turn, from 1; repeats do not nest
+//!     repeat M-N              the same, with the turns M to N
 //!
 //! A forged header, for faulty forms: the fields g= and k= of open, n= and q= of message,
 //! g= and q= of close put another number into the header and change nothing else. With
@@ -99,11 +100,15 @@ fn translate(text: &str, output: &mut impl Write) -> Result<(), String> {
     let mut lines = lines.iter();
     while let Some((number, line)) = lines.next() {
         let here = |error: String| format!("line {number}: {error}");
-        let Some(times) = line.strip_prefix("repeat ") else {
+        let Some(turns) = line.strip_prefix("repeat ") else {
             write_line(line, output).map_err(here)?;
             continue;
         };
-        let times: u32 = parse(times.trim()).map_err(here)?;
+        let (from, to) = turns.trim().split_once('-').unwrap_or(("1", turns.trim()));
+        let (from, to): (u32, u32) = (parse(from).map_err(here)?, parse(to).map_err(here)?);
+        if from > to {
+            return Err(here(format!("no turns: {turns}")));
+        }
         let (before, after) = lines.as_slice().split_at(
             lines
                 .as_slice()
@@ -111,7 +116,7 @@ fn translate(text: &str, output: &mut impl Write) -> Result<(), String> {
                 .position(|(_, line)| line == "end")
                 .ok_or_else(|| here("repeat without end".into()))?,
         );
-        for turn in 1..=times {
+        for turn in from..=to {
             for (number, line) in before {
                 write_line(&line.replace('@', &turn.to_string()), output)
                     .map_err(|error| format!("line {number}, turn {turn}: {error}"))?;

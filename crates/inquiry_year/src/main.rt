@@ -1,5 +1,5 @@
-//! The program `inquiry` again, on a year that is marked day by day, up to the last tariff row, and
-//! goes on past its 366th close; compare/sessions/year.txt has it in words.
+//! The program `inquiry` again, on a year in which stages climb through five tariff rows, fall and
+//! climb again, and which goes on past its 366th close; compare/sessions/year.txt has it in words.
 #![tactic(auto)]
 
 use inquire::inquiry::inquiry;

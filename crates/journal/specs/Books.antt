@@ -17,11 +17,13 @@ abbrev pub Own : {A : Type 0} → Result A Fault → List ℕ → List ℕ → T
 Own (Ok _) given sheet = given ≡ sheet
 Own (Err _) given sheet = Unit {0}
 
--- Book and sheet before an entry, and after it: only an accepted call has changed the sheet.
+-- book and sheet are as they were: so a question leaves them
 pub record Step (s : State) (w : List ℕ) (after : State) (left : List ℕ) : Type 0 where
   pub book : after ≡ s
   pub sheet : left ≡ w
 
+-- Book and sheet before an entry, and after it. Answers and outcomes are those that the calls' contracts cite; only an accepted
+-- message or close has changed the sheet. What stood in the rows that a close was lent has no part in it.
 abbrev pub Stepped : Meaning → Entry → State → List ℕ → State → List ℕ → Type 0
 Stepped m (submit form given answer) s w after left =
     let o = submitted s given form in

@@ -56,5 +56,6 @@ short =
     total 1 (Ok (50192, pos 0)) ∷ standing 1 1 (Ok (true, 1)) ∷ advance laid (Ok tt) ∷ advance laid (Ok tt)
     ∷ submit message unsent (Ok (96, Some 1)) ∷ []
 
+-- 7. Under rolling 30 the second of the two stands farther out and costs more.
 abbrev pub FartherCostsMore : Type 0
 FartherCostsMore = CostsMore (rolling 30) opening idle short 0

@@ -59,6 +59,6 @@ pub record ExactlyOne (m : Meaning) (form : List ℕ) (calls : List Call) : Type
   pub asked : Asked m form calls journal
   pub only : (other : Journal) → Asked m form calls other → other ≡ journal
 
--- of every opening that is accepted, every rule and every list of calls
+-- 6. of every opening that is accepted, every rule and every list of calls
 abbrev pub OneJournal : Type 0
 OneJournal = (form given : List ℕ) → open_check form given ≡ Ok tt → (m : Meaning) (calls : List Call) → ExactlyOne m form calls

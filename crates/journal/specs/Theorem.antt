@@ -1,4 +1,5 @@
--- Nobody who sends messages can bend the account.
+-- Nobody who sends messages can bend the account. The words: what a journal is and what is counted in it in Journals, the numbers
+-- reckoned from it in Reckoned, a journal of a book in Books. docs/JOURNAL.md has each sentence beside its definition.
 use Rattle.std.specs.Prelude.{◌≡◌, ℕ, ◌+◌, ◌<◌, ◌≤◌, Bool, true, List, ◌∷◌, length, ℤ, pos, Ok}
 use Rattle.forms.specs.Calendar.{year_days, quarters}
 use Rattle.forms.specs.Openings.{terms_of}
@@ -31,7 +32,7 @@ Energy form =
     × ((a b : ℕ) → a < groups (terms_of form) → b < groups (terms_of form)
     → (confirmed (says j) t a b ≤ says j a (out_to b) t) × (confirmed (says j) t a b ≤ says j b (in_from a) t))
 
--- 3. A stage depends on the marked days alone. Said of the reckoned stages, and of what standing answers or would answer next.
+-- 3. A stage depends on the marked days alone. Said of the reckoned stages, and of the stage that standing answers or would answer next.
 abbrev pub MarksAlone : List ℕ → Type 0
 MarksAlone form =
     (m n : Meaning) (j k : Journal) → Lawful m → Lawful n → OneRule m n → JournalOf m form j → JournalOf n form k
@@ -40,7 +41,8 @@ MarksAlone form =
     → (stage m (terms_of form) j a day ≡ stage n (terms_of form) k a day)
     × ((x y : Bool × ℕ) → JournalOf m form (standing (a + 1) day (Ok x) ∷ j) → JournalOf n form (standing (a + 1) day (Ok y) ∷ k) → x.1 ≡ y.1)
 
--- 4. Standing farther out never costs less. Said of the reckoned stages and penalties, and of what standing and total answer or would answer next.
+-- 4. Standing farther out never costs less, in stages and penalties; balance amounts go by prices and are not meant.
+-- Said of the reckoned ones, and of those that standing and total answer or would answer next.
 abbrev pub FartherNoCheaper : List ℕ → Type 0
 FartherNoCheaper form =
     (m n : Meaning) (j k : Journal) → Lawful m → Lawful n → OneRule m n → JournalOf m form j → JournalOf n form k
@@ -52,7 +54,7 @@ FartherNoCheaper form =
     × (penalties m (terms_of form) j a ≤ penalties n (terms_of form) k a)
     × ((x y : ℕ × ℤ) → JournalOf m form (total (a + 1) (Ok x) ∷ j) → JournalOf n form (total (a + 1) (Ok y) ∷ k) → x.0 ≤ y.0)
 
--- Asked next, standing and total answer: of each day past its cut-off the reckoned mark and stage, and the reckoned penalties and balance.
+-- 5. Asked next, standing and total answer: of each day past its cut-off the reckoned mark and stage, and the reckoned penalties and balance.
 abbrev pub AskedNext : List ℕ → Type 0
 AskedNext form =
     (m : Meaning) (j : Journal) → Lawful m → JournalOf m form j → (a : ℕ) → a < groups (terms_of form)
