@@ -7,7 +7,7 @@ use Rattle.forms.specs.Checks.{Verdict, refuse_if, if_passed}
 use Rattle.forms.specs.Closings.{ClosingFormed, closing_sizes, closing_check, feed_in, long_price, short_price}
 use Rattle.stage.specs.Marked.{on_day}
 use Rattle.settlement.specs.declared.phase.Phase.TheVariants.{Ahead}
-use Rattle.settlement.specs.Amounts.{quarter_cost, day_cost, balance_amount}
+use Rattle.settlement.specs.Amounts.{quarter_cost, balance_amount}
 use Rattle.settlement.specs.Positions.{net_purchases}
 use Rattle.book.specs.Rows.{Row}
 use Rattle.book.specs.Queries.{day_check}
@@ -31,12 +31,6 @@ unfoldable pub quarter_today : State → List ℕ → List ℕ → ℕ → ℕ �
 quarter_today s sheet form a t =
     quarter_cost (statements s sheet) (size s) a (feed_in (day_quarters s) form a)
     (long_price (size s) (day_quarters s) form) (short_price (size s) (day_quarters s) form) t
-
--- what a group's imbalances of the first n quarter hours of the current day cost
-unfoldable pub cost_today : State → List ℕ → List ℕ → ℕ → ℕ → ℤ
-cost_today s sheet form a n =
-    day_cost (statements s sheet) (size s) a (feed_in (day_quarters s) form a)
-    (long_price (size s) (day_quarters s) form) (short_price (size s) (day_quarters s) form) n
 
 -- the balance amount of the current day
 unfoldable pub balance_today : State → List ℕ → List ℕ → ℕ → ℤ

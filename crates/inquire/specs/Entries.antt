@@ -3,8 +3,8 @@ use Rattle.std.specs.Prelude.{ℕ, Bool, cond, List, ◌++◌, map, ℤ, Ok, Err
 use Rattle.std.specs.declared.alloc.Global.{Global}
 use Rattle.std.specs.Fmt.{signed_decimal}
 use Rattle.forms.specs.declared.fault.Fault.{Fault}
-use Rattle.forms.specs.Faults.{notice_of, shown_of}
 use Rattle.book.specs.Queries.{standing_of, total_of}
+use Rattle.session.specs.Replies.{refusal}
 use Rattle.inquire.specs.declared.line.Line.{Line}
 use Rattle.inquire.specs.declared.line.Line.TheVariants.{Position, Trade, Standing, Total}
 
@@ -29,12 +29,12 @@ entries_in lines = map entry_of (vec_items lines)
 -- the numbers of an answer, or its refusal
 abbrev told : {A : Type 0} → (A → List ℕ) → Result A Fault → List ℕ
 told numbers (Ok x) = numbers x
-told numbers (Err e) = codes "REFUSED " ++ shown_of (notice_of e)
+told numbers (Err e) = refusal e
 
 -- the same where the numbers' text need not be stated
 abbrev pub answer_told : {A : Type 0} → (A → Option (List ℕ)) → Result A Fault → Option (List ℕ)
 answer_told output (Ok x) = output x
-answer_told output (Err e) = Some (codes "REFUSED " ++ shown_of (notice_of e))
+answer_told output (Err e) = Some (refusal e)
 
 abbrev pub positions_told : ℤ × ℤ × ℤ → List ℕ
 positions_told p = signed_decimal p.0 ++ (codes " " ++ (signed_decimal p.1 ++ (codes " " ++ signed_decimal p.2)))

@@ -14,7 +14,8 @@ use Rattle.book.specs.Cuts.{excess_today, past_cut_off, cut_off, in_phase}
 use Rattle.book.specs.Queries.{day_check}
 use Rattle.book.specs.States.{State, nothing_kept, size, figures, kept, day_quarters, year_over, statements}
 use Rattle.journal.specs.Journals.{Entry, advance, Journal, advanced_here, closed_here, advances, closes, cut_offs, today, says}
-use Rattle.journal.specs.Reckoned.{Meaning, excess_on, mark, marks_to, penalty_on, penalties}
+use Rattle.journal.specs.Reckoned.{excess_on, mark, marks_to, penalty_on, penalties}
+use Rattle.stage.specs.Rules.{Meaning}
 use Rattle.journal.proofs.Counting.{one_more, no_more, before_now}
 use Rattle.journal.proofs.Keeping.{Keeps, advances_in, marks_still, penalties_still, balance_still, marks_more, penalties_more}
 use Rattle.journal.proofs.Quiet.{says_still}

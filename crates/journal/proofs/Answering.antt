@@ -29,7 +29,8 @@ use Rattle.book.proofs.ByMessage.{by_sender}
 use Rattle.book.proofs.Meaning.{sender_named}
 use Rattle.journal.specs.Journals as journals
 use Rattle.journal.specs.Journals.{Entry, submit, close, Journal, advances, closes, cut_offs, phase_of, phase, says}
-use Rattle.journal.specs.Reckoned.{Meaning, mark, marks_to, stage, penalties, balance, row, beyond, count_beyond}
+use Rattle.journal.specs.Reckoned.{mark, marks_to, stage, penalties, balance, row, beyond, count_beyond}
+use Rattle.stage.specs.Rules.{Meaning}
 use Rattle.journal.proofs.Closing.{balance_found}
 use Rattle.journal.proofs.Earlier.{mapped_same, marks_kept, penalty_kept}
 use Rattle.journal.proofs.Keeping.{Keeps, advances_in}

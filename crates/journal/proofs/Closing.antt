@@ -16,7 +16,8 @@ use Rattle.book.specs.Rows.{Row}
 use Rattle.book.specs.States.{State, nothing_kept, size, kept, day_quarters, statements}
 use Rattle.book.specs.Sheets.{all_flags}
 use Rattle.journal.specs.Journals.{Entry, close, Journal, advanced_here, closed_here, advances, closes, cut_offs, today, before, says, last_message}
-use Rattle.journal.specs.Reckoned.{Meaning, balance_on, balance}
+use Rattle.journal.specs.Reckoned.{balance_on, balance}
+use Rattle.stage.specs.Rules.{Meaning}
 use Rattle.journal.proofs.Advancing.{ahead_not_after}
 use Rattle.journal.proofs.Counting.{one_more, no_more, before_now, form_now}
 use Rattle.journal.proofs.Keeping.{Keeps, advances_in, marks_still, penalties_still, balance_more}

@@ -8,7 +8,8 @@ use Rattle.forms.specs.Figures.{Terms}
 use Rattle.settlement.specs.Amounts.{is_marked, row_for, penalty, balance_amount}
 use Rattle.settlement.specs.Positions.{day_excess}
 use Rattle.journal.specs.Journals.{Entry, Journal, advanced_here, closed_here, closes, cut_offs, says}
-use Rattle.journal.specs.Reckoned.{Meaning, groups, figures, excess_on, mark, marks_to, penalty_on, balance_on}
+use Rattle.journal.specs.Reckoned.{groups, figures, excess_on, mark, marks_to, penalty_on, balance_on}
+use Rattle.stage.specs.Rules.{Meaning}
 use Rattle.journal.proofs.Counting.{before_kept, form_kept}
 
 -- the same of every place, the same list

@@ -7,7 +7,7 @@ use Rattle.forms.specs.Figures.{Terms}
 use Rattle.forms.specs.Openings.{terms_of, group_at, row_at}
 use Rattle.message.specs.Form.{value_at}
 use Rattle.message.specs.Places.{first_of, place_under, value_under}
-use Rattle.stage.specs.Rules.{rolling, days_where, in_window}
+use Rattle.stage.specs.Rules.{rolling, days_where, in_window, Meaning}
 use Rattle.stage.specs.LawProofs.Windows.{rolling_le, rolling_under}
 use Rattle.settlement.specs.declared.phase.Phase.{Phase}
 use Rattle.settlement.specs.declared.phase.Phase.TheVariants.{Ahead, Near}
@@ -21,10 +21,10 @@ use Rattle.book.specs.Queries.{day_check, standing_answer, total_answer}
 use Rattle.book.specs.Sheets.{all_powers}
 use Rattle.book.specs.States.{State, GroupState, nothing_kept}
 use Rattle.book.proofs.Submitting.{submit_accepted}
-use Rattle.journal.specs.Books.{Step, Stepped, Brings, JournalOf}
+use Rattle.journal.specs.Books.{Unchanged, Stepped, Brings, JournalOf}
 use Rattle.journal.specs.Exhibit.{FartherCostsMore, FartherOut, opening, message, unsent, laid, idle, short}
 use Rattle.journal.specs.Journals.{Journal, submit, advance, standing, total, how_many, before, last_message, says, cut_offs}
-use Rattle.journal.specs.Reckoned.{Meaning, open_at, excess_on, marks_to, penalty_on, penalties, stage}
+use Rattle.journal.specs.Reckoned.{open_at, excess_on, marks_to, penalty_on, penalties, stage}
 use Rattle.journal.specs.Theorem.{Lawful}
 use Rattle.journal.proofs.Replay.{opens}
 
@@ -113,7 +113,7 @@ module _ (flags : List Bool) (groups : List GroupState) (w : List ℕ) (j : Jour
   past_one_day b fits stands owes =
       let to-near : Stepped m (advance w (Ok tt)) ahead w near w = (refl, sym fits, ap (λ v. if_passed v near ahead) (sym fits), refl) in
       let to-after : Stepped m (advance w (Ok tt)) near w after w = (refl, sym fits, ap (λ v. if_passed v after near) (sym fits), refl) in
-      let still : Step after w after w = record { book = refl; sheet = refl } in
+      let still : Unchanged after w after w = record { book = refl; sheet = refl } in
       (after, w, (after, w, (after, w, (near, w, (ahead, w, b, to-near), to-after), (stands, still)), (owes, still)))
 
 idle_journal : JournalOf m opening idle

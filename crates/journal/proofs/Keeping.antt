@@ -12,7 +12,8 @@ use Rattle.settlement.proofs.Sums.{sumℕ-same, sumℕ-more, sumℤ-same, sumℤ
 use Rattle.book.specs.States.{State, size, kept, statements}
 use Rattle.book.specs.Sheets.{all_flags}
 use Rattle.journal.specs.Journals.{Entry, Journal, advances, closes, cut_offs, today, says}
-use Rattle.journal.specs.Reckoned.{Meaning, mark, marks_to, penalty_on, penalties, balance_on, balance}
+use Rattle.journal.specs.Reckoned.{mark, marks_to, penalty_on, penalties, balance_on, balance}
+use Rattle.stage.specs.Rules.{Meaning}
 use Rattle.journal.proofs.Earlier.{marks_kept, penalty_kept, balance_kept}
 
 -- the advances of a day so far

@@ -19,7 +19,8 @@ use Rattle.book.specs.States.{State, nothing_kept, kept, statements}
 use Rattle.book.specs.Sheets.{all_flags}
 use Rattle.book.proofs.Days.{flags_enough}
 use Rattle.journal.specs.Journals.{advances, closes, cut_offs, how_many, says, last_message}
-use Rattle.journal.specs.Reckoned.{Meaning, marks_to, penalty_on, penalties, balance_on, balance}
+use Rattle.journal.specs.Reckoned.{marks_to, penalty_on, penalties, balance_on, balance}
+use Rattle.stage.specs.Rules.{Meaning}
 use Rattle.journal.proofs.Advancing.{ahead_not_after}
 use Rattle.journal.proofs.Closing.{unset}
 use Rattle.journal.proofs.Keeping.{Keeps}

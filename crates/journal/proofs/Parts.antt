@@ -13,7 +13,8 @@ use Rattle.settlement.specs.Sums.{sumℕ}
 use Rattle.settlement.proofs.Laws.{farther_day_no_less, penalty_no_less}
 use Rattle.settlement.proofs.Sums.{sumℕ-le}
 use Rattle.journal.specs.Journals.{Journal, cut_offs, at_cut_off, says}
-use Rattle.journal.specs.Reckoned.{Meaning, groups, figures, open_at, excess_on, mark, marks_to, stage, penalty_on, penalties}
+use Rattle.journal.specs.Reckoned.{groups, figures, open_at, excess_on, mark, marks_to, stage, penalty_on, penalties}
+use Rattle.stage.specs.Rules.{Meaning}
 use Rattle.journal.specs.Theorem.{Lawful, OneRule}
 use Rattle.journal.proofs.Earlier.{marks_same, length_marks_to}
 

@@ -5,7 +5,8 @@ use Rattle.forms.specs.Slots.{Slot}
 use Rattle.settlement.specs.declared.phase.Phase.TheVariants.{After}
 use Rattle.book.specs.States.{State}
 use Rattle.journal.specs.Journals.{Entry, Journal, advanced_here, closed_here, message_in, closes, cut_offs, today, says, last_message}
-use Rattle.journal.specs.Reckoned.{Meaning, penalty_on}
+use Rattle.journal.specs.Reckoned.{penalty_on}
+use Rattle.stage.specs.Rules.{Meaning}
 use Rattle.journal.proofs.Counting.{no_more}
 use Rattle.journal.proofs.Earlier.{penalty_kept}
 use Rattle.journal.proofs.Keeping.{Keeps, advances_in, marks_still, penalties_still, balance_still}

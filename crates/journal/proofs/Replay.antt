@@ -14,7 +14,7 @@ use Rattle.book.specs.States.{State}
 use Rattle.journal.specs.Books.{Own, Stepped, Brings}
 use Rattle.journal.specs.Exists.{Call, call_of, Handed, OwnSheet, OneJournal}
 use Rattle.journal.specs.Journals.{Entry, Journal}
-use Rattle.journal.specs.Reckoned.{Meaning}
+use Rattle.stage.specs.Rules.{Meaning}
 use Rattle.journal.proofs.Opening.{state_new, sheet_new, fitted}
 
 own_itself : {A : Type 0} (answer : Result A Fault) (w : List ℕ) → Own answer w w

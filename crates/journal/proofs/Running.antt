@@ -18,7 +18,8 @@ use Rattle.book.specs.Queries.{group_check, position_check, position_answer, tra
 use Rattle.book.specs.States.{State, size, day_quarters, is_after}
 use Rattle.journal.specs.Books.{Stepped, Brings}
 use Rattle.journal.specs.Journals.{Entry, submit, advance, close, position, trade, standing, total, Journal}
-use Rattle.journal.specs.Reckoned.{Meaning, Right, AllRight}
+use Rattle.stage.specs.Rules.{Meaning}
+use Rattle.journal.specs.Theorem.{Right, AllRight}
 use Rattle.journal.proofs.Advancing.{keeps_nearer, keeps_cut_off, day_left}
 use Rattle.journal.proofs.Answering.{position_right, trade_right, standing_right, total_right, count_right, rows_right}
 use Rattle.journal.proofs.Closing.{keeps_close}

@@ -13,7 +13,7 @@ use Rattle.book.specs.States.{State, size, kept, day_quarters, statements}
 use Rattle.book.proofs.Meaning.{message_stands, message_fixes_nothing, sender_named}
 use Rattle.book.proofs.Submitting.{submit_accepted}
 use Rattle.journal.specs.Journals.{Entry, submit, Journal, advanced_here, closed_here, advances, closes, cut_offs, today, says, last_message}
-use Rattle.journal.specs.Reckoned.{Meaning}
+use Rattle.stage.specs.Rules.{Meaning}
 use Rattle.journal.proofs.Counting.{no_more}
 use Rattle.journal.proofs.Keeping.{Keeps, advances_in, marks_still, penalties_still, balance_still}
 use Rattle.journal.proofs.Quiet.{due_still}

@@ -4,9 +4,10 @@ use Rattle.forms.specs.Openings.{terms_of}
 use Rattle.forms.specs.Lawful.{NeverFalls}
 use Rattle.settlement.proofs.Laws.{balanced, below_both}
 use Rattle.book.specs.States.{State, size}
-use Rattle.journal.specs.Books.{Brings, JournalOf, Step}
+use Rattle.journal.specs.Books.{Brings, JournalOf, Unchanged}
 use Rattle.journal.specs.Journals.{Journal, standing, total, cut_offs, says}
-use Rattle.journal.specs.Reckoned.{Meaning, groups, mark, stage, penalties, balance}
+use Rattle.journal.specs.Reckoned.{groups, mark, stage, penalties, balance}
+use Rattle.stage.specs.Rules.{Meaning}
 use Rattle.journal.specs.Theorem.{Answers, Energy, MarksAlone, FartherNoCheaper, AskedNext, NobodyBends}
 use Rattle.journal.proofs.Answering.{standing_next, total_next}
 use Rattle.journal.proofs.Opening.{never_falls}
@@ -21,10 +22,10 @@ in_year : (m : Meaning) (form : List ℕ) (j : Journal) → JournalOf m form j �
 in_year m form j (s, w, b) = (holds m form j s w b).keeps.year
 
 answers : (form : List ℕ) → Answers form
-answers form m j lawful (s, w, b) = all_right m form j s w b
+answers form m j (s, w, b) = all_right m form j s w b
 
 energy : (form : List ℕ) → Energy form
-energy form m j lawful b t l = (balanced (says j) (groups (terms_of form)) t, λ a c p q. below_both (says j) t a c)
+energy form m j b t l = (balanced (says j) (groups (terms_of form)) t, λ a c p q. below_both (says j) t a c)
 
 -- what standing and total answer next
 standing_told : (m : Meaning) (form : List ℕ) (j : Journal) (a day : ℕ) (x : Bool × ℕ) → JournalOf m form (standing (a + 1) day (Ok x) ∷ j) → x.1 ≡ stage m (terms_of form) j a day
@@ -38,13 +39,13 @@ total_told m form j a x (s, w, b) =
     ∙ ap (penalties m (terms_of form) j) (let d : a + 1 - 1 ≡ a = omega arith in d)
 
 marks_alone : (form : List ℕ) → MarksAlone form
-marks_alone form m n j k lawful lawful' one b c a day there l h i same =
+marks_alone form m n j k one b c a day there l h i same =
     let year = in_year m form j b in
     let stages = stage_same (terms_of form) m n j k one a day l (omega arith) same in
     (stages, λ x y p q. standing_told m form j a day x p ∙ stages ∙ sym (standing_told n form k a day y q))
 
 farther_no_cheaper : (form : List ℕ) → FartherNoCheaper form
-farther_no_cheaper form m n j k lawful lawful' one (s, w, b) c many a there far =
+farther_no_cheaper form m n j k lawful one (s, w, b) c many a there far =
     let terms = terms_of form in
     let year = in_year m form j (s, w, b) in
     let rises = tariff_rises m form j s w b in
@@ -56,10 +57,10 @@ farther_no_cheaper form m n j k lawful lawful' one (s, w, b) c many a there far 
     )
 
 asked_next : (form : List ℕ) → AskedNext form
-asked_next form m j lawful (s, w, b) a there =
+asked_next form m j (s, w, b) a there =
     let h = holds m form j s w b in
     let own : a < size s = omega (arith, there, ap groups h.terms_same) in
-    let same : (s : State) (w : List ℕ) → Step s w s w = λ s w. record { book = refl; sheet = refl } in (
+    let same : (s : State) (w : List ℕ) → Unchanged s w s w = λ s w. record { book = refl; sheet = refl } in (
       λ day low high.
           let told = standing_next m s w j h.keeps a day own low high ∙ ap (λ terms. Ok (mark terms j a day, stage m terms j a day)) h.terms_same in
           (s, w, (s, w, b, (sym told, same s w))),

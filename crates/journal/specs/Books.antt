@@ -10,7 +10,7 @@ use Rattle.forms.specs.Checks.{answer_if, if_passed}
 use Rattle.book.specs.Rows.{Row}
 use Rattle.book.specs.States.{State}
 use Rattle.journal.specs.Journals.{Entry, submit, advance, close, position, trade, standing, total, Journal}
-use Rattle.journal.specs.Reckoned.{Meaning}
+use Rattle.stage.specs.Rules.{Meaning}
 
 -- an accepted call had the book's own sheet; a refused one may have had another
 abbrev pub Own : {A : Type 0} → Result A Fault → List ℕ → List ℕ → Type 0
@@ -18,7 +18,7 @@ Own (Ok _) given sheet = given ≡ sheet
 Own (Err _) given sheet = Unit {0}
 
 -- book and sheet are as they were: so a question leaves them
-pub record Step (s : State) (w : List ℕ) (after : State) (left : List ℕ) : Type 0 where
+pub record Unchanged (s : State) (w : List ℕ) (after : State) (left : List ℕ) : Type 0 where
   pub book : after ≡ s
   pub sheet : left ≡ w
 
@@ -35,10 +35,10 @@ Stepped m (close form given rows answer) s w after left =
     (lent : List Row)
     × (let o = closed_by m s (record { sheet = given; rows = lent }) form in
     Own answer given w × (length lent ≡ rows) × (answer ≡ answer_if o.0 o.2.rows) × (after ≡ o.1) × (left ≡ if_passed answer o.2.sheet w))
-Stepped m (position given group quarter answer) s w after left = Own answer given w × (answer ≡ position_answer s given group quarter) × Step s w after left
-Stepped m (trade given from to quarter answer) s w after left = Own answer given w × (answer ≡ trade_answer s given from to quarter) × Step s w after left
-Stepped m (standing group day answer) s w after left = (answer ≡ standing_answer m s group day) × Step s w after left
-Stepped m (total group answer) s w after left = (answer ≡ total_answer s group) × Step s w after left
+Stepped m (position given group quarter answer) s w after left = Own answer given w × (answer ≡ position_answer s given group quarter) × Unchanged s w after left
+Stepped m (trade given from to quarter answer) s w after left = Own answer given w × (answer ≡ trade_answer s given from to quarter) × Unchanged s w after left
+Stepped m (standing group day answer) s w after left = (answer ≡ standing_answer m s group day) × Unchanged s w after left
+Stepped m (total group answer) s w after left = (answer ≡ total_answer s group) × Unchanged s w after left
 
 -- The journal brings a book opened by this form, under a rule of this meaning, to this state with this sheet; whatever the place held before.
 abbrev pub Brings : Meaning → List ℕ → Journal → State → List ℕ → Type 0

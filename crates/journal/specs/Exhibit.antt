@@ -3,11 +3,11 @@ use Rattle.std.specs.Prelude.{◌≡◌, ℕ, zero, suc, ◌<◌, ◌≤◌, tru
 use Rattle.forms.specs.Calendar.{quarters}
 use Rattle.forms.specs.Figures.{Terms}
 use Rattle.forms.specs.Openings.{terms_of}
-use Rattle.stage.specs.Rules.{rolling}
+use Rattle.stage.specs.Rules.{rolling, Meaning}
 use Rattle.settlement.specs.Positions.{as_far_out}
 use Rattle.journal.specs.Books.{JournalOf}
 use Rattle.journal.specs.Journals.{Journal, submit, advance, standing, total, cut_offs}
-use Rattle.journal.specs.Reckoned.{Meaning, groups, open_at, stage, penalties}
+use Rattle.journal.specs.Reckoned.{groups, open_at, stage, penalties}
 use Rattle.journal.specs.Theorem.{Lawful}
 
 -- at each cut-off, in each quarter hour, group a's confirmed open position is at least as far from zero in the second journal

@@ -4,7 +4,7 @@ use Rattle.book.specs.Opens.{open_check}
 use Rattle.book.specs.States.{State}
 use Rattle.journal.specs.Books.{Brings}
 use Rattle.journal.specs.Journals.{Entry, Journal}
-use Rattle.journal.specs.Reckoned.{Meaning}
+use Rattle.stage.specs.Rules.{Meaning}
 
 -- What a call asks for: an entry without its sheet and without its answer.
 pub data Call : Type 0 where

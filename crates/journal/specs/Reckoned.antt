@@ -1,24 +1,19 @@
 -- The account as it is reckoned from a journal: groups and quarter hours count from 0, days from 1.
-use Rattle.std.specs.Prelude.{◌≡◌, ℕ, ◌+◌, ◌-◌, Bool, List, [], ◌∷◌, map, length, ℤ, Ok, Err, Option, Result, nat_lt, slice_index_or}
+use Rattle.std.specs.Prelude.{ℕ, ◌+◌, Bool, List, map, length, ℤ, Option, slice_index_or}
 use Rattle.std.specs.List.{range_with_len}
 use Rattle.std.specs.Option.{option_map}
-use Rattle.forms.specs.declared.fault.Fault.{Fault}
 use Rattle.forms.specs.Calendar.{quarters}
 use Rattle.forms.specs.Closings.{feed_in, long_price, short_price}
 use Rattle.forms.specs.Figures.{GroupFigures, Terms}
-use Rattle.message.specs.Form.{said}
 use Rattle.message.specs.Places.{first_of}
+use Rattle.stage.specs.Rules.{Meaning}
 use Rattle.settlement.specs.Amounts.{is_marked, row_for, penalty, balance_amount}
-use Rattle.settlement.specs.Positions.{stated_open, confirmed_open, net_purchases, confirmed, excess, day_excess}
+use Rattle.settlement.specs.Positions.{stated_open, confirmed_open, is_beyond, day_excess}
 use Rattle.settlement.specs.Sums.{sumℕ, sumℤ}
 use Rattle.book.specs.Messages.{count_where}
 use Rattle.book.specs.Rows.{Row}
 use Rattle.book.specs.States.{no_figures}
-use Rattle.journal.specs.Journals.{Entry, submit, advance, close, position, trade, standing, total, Journal, closes, cut_offs, today, phase, at_cut_off, at_close, closing_form, says}
-
--- a stage rule by its meaning
-abbrev pub Meaning : Type 0
-Meaning = List Bool → ℕ
+use Rattle.journal.specs.Journals.{Journal, closes, cut_offs, today, phase, at_cut_off, at_close, closing_form, says}
 
 abbrev pub groups : Terms → ℕ
 groups terms = length terms.groups
@@ -73,33 +68,10 @@ row m terms j day a = record {
 
 -- a quarter hour in which group a's open position, as it stands stated, is beyond the limit of the phase
 abbrev pub beyond : Terms → Journal → ℕ → ℕ → Bool
-beyond terms j a t = nat_lt 0 (excess (figures terms a) (phase j) (stated_open (says j) (figures terms a) (groups terms) t a))
+beyond terms j a t = is_beyond (figures terms a) (phase j) (stated_open (says j) (figures terms a) (groups terms) t a)
 
 -- how many there are, and the first, from 1
 unfoldable pub count_beyond : Terms → Journal → ℕ → ℕ × Option ℕ
 count_beyond terms j a =
     let q = quarters (today j) in
     (count_where (beyond terms j a) q, option_map (λ t. t + 1) (first_of (beyond terms j a) q))
-
--- an answer that is no refusal is this
-abbrev pub Is : {A : Type 0} → Result A Fault → A → Type 0
-Is (Ok x) y = x ≡ y
-Is (Err _) y = Unit {0}
-
--- The newest answer is the number so reckoned; j is the journal before it.
-abbrev pub Right : Meaning → Terms → Entry → Journal → Type 0
-Right m terms (submit form sheet answer) j = Is answer (count_beyond terms (submit form sheet answer ∷ j) ((said form).group - 1))
-Right m terms (advance sheet answer) j = Unit {0}
-Right m terms (close form sheet rows answer) j = Is answer (map (row m terms (close form sheet rows answer ∷ j) (today j)) (range_with_len 0 (groups terms)))
-Right m terms (position sheet group quarter answer) j =
-    let a = group - 1 in
-    let t = quarter - 1 in
-    Is answer (stated_open (says j) (figures terms a) (groups terms) t a, confirmed_open (says j) (figures terms a) (groups terms) t a, net_purchases (says j) (groups terms) t a)
-Right m terms (trade sheet from to quarter answer) j = Is answer (confirmed (says j) (quarter - 1) (from - 1) (to - 1))
-Right m terms (standing group day answer) j = Is answer (mark terms j (group - 1) day, stage m terms j (group - 1) day)
-Right m terms (total group answer) j = Is answer (penalties m terms j (group - 1), balance terms j (group - 1))
-
--- every answer is
-abbrev pub AllRight : Meaning → Terms → Journal → Type 0
-AllRight m terms [] = Unit {0}
-AllRight m terms (e ∷ j) = Right m terms e j × AllRight m terms j

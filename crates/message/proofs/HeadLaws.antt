@@ -1,21 +1,29 @@
 -- What follows once the heads of a message are lawful and none stands twice.
-use Rattle.std.proofs.Common.{◌≡◌, ℕ, ◌+◌, ◌<◌, ◌≤◌, true, false, eqb, List, is_some, Some, None, Ok, Option, refl, ap, arith}
+use Rattle.std.proofs.Common.{◌≡◌, ℕ, ◌+◌, ◌<◌, ◌≤◌, ◌≢◌, true, false, eqb, List, is_some, Some, None, Ok, Option, refl, ap, arith}
 use Rattle.std.proofs.lemmas.Bool.{and_from, eq-eqb}
 use Rattle.std.proofs.lemmas.Bool.Decides.{nat_tests}
 use Rattle.forms.specs.Checks.{each_of}
-use Rattle.forms.specs.Slots.{kind_of, counter_of}
+use Rattle.forms.specs.Slots.{Slot, out_to, in_from, cons, prod, pump, kind_of, counter_of}
 use Rattle.forms.specs.declared.fault.Fault.TheVariants.{UnlawfulHead, RepeatedHead}
 use Rattle.forms.proofs.Firsts.{each_passed, passed_left, passed_right, unrefused, allowed}
 use Rattle.message.specs.Form.{series_count, kind_at, counter_at, value_at}
 use Rattle.message.specs.Told.{slot_under, slot_at}
 use Rattle.message.specs.Places.{first_of, head_is, place_under, place_of, sent_in, stated}
-use Rattle.message.specs.Heads.{names_other, lawful_head, Sendable, head_check, repeats, once_check, heads_check}
+use Rattle.message.specs.Heads.{names_other, lawful_head, head_check, repeats, once_check, heads_check}
 use Rattle.message.proofs.Search.{first_found}
 use Rattle.message.proofs.Stated.{value_found}
 
 none_from : (o : Option ℕ) → is_some o ≡ false → o ≡ None
 none_from None h = refl
 none_from (Some i) h = cc
+
+-- what the group `own` of g groups may send
+abbrev pub Sendable : ℕ → ℕ → Slot → Type 0
+Sendable g own (out_to b) = (b < g) × (b ≢ own)
+Sendable g own (in_from b) = (b < g) × (b ≢ own)
+Sendable g own cons = Unit {0}
+Sendable g own prod = Unit {0}
+Sendable g own pump = Unit {0}
 
 -- a lawful head is the kind and the counter of a slot that the group may send
 pub record Sent (g own kind counter : ℕ) : Type 0 where

@@ -1,10 +1,9 @@
 -- Which heads a message may have. Groups count from 0 here, the counters of heads from 1.
-use Rattle.std.specs.Prelude.{ℕ, ◌+◌, ◌<◌, Bool, not, ◌&&◌, ◌||◌, List, is_some, ◌==◌, ◌≢◌}
+use Rattle.std.specs.Prelude.{ℕ, ◌+◌, Bool, not, ◌&&◌, ◌||◌, List, is_some, ◌==◌}
 use Rattle.std.specs.Int.{is_in_range}
 use Rattle.std.specs.Result.{result_and}
 use Rattle.forms.specs.Checks.{Verdict, refuse_if, each_of}
 use Rattle.forms.specs.declared.fault.Fault.TheVariants.{UnlawfulHead, RepeatedHead}
-use Rattle.forms.specs.Slots.{Slot, out_to, in_from, cons, prod, pump}
 use Rattle.message.specs.Form.{series_count, kind_at, counter_at}
 use Rattle.message.specs.Told.{is_trade, is_forecast}
 use Rattle.message.specs.Places.{first_of, head_is}
@@ -16,14 +15,6 @@ names_other g own counter = is_in_range 1 g counter && not (counter == own + 1)
 -- A trade names another group, a forecast names 0, and there is no other kind.
 abbrev pub lawful_head : ℕ → ℕ → ℕ → ℕ → Bool
 lawful_head g own kind counter = (is_trade kind && names_other g own counter) || (is_forecast kind && counter == 0)
-
--- what the group `own` of g groups may send
-abbrev pub Sendable : ℕ → ℕ → Slot → Type 0
-Sendable g own (out_to b) = (b < g) × (b ≢ own)
-Sendable g own (in_from b) = (b < g) × (b ≢ own)
-Sendable g own cons = Unit {0}
-Sendable g own prod = Unit {0}
-Sendable g own pump = Unit {0}
 
 abbrev pub head_check : ℕ → ℕ → List ℕ → ℕ → Verdict
 head_check g own s i = refuse_if (not (lawful_head g own (kind_at s i) (counter_at s i))) (UnlawfulHead (i + 1))

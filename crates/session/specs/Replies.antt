@@ -27,10 +27,14 @@ abbrev pub told_in : Result Reply Fault → Told
 told_in (Ok reply) = told_by reply
 told_in (Err e) = refused e
 
+-- the line of a refusal
+abbrev pub refusal : Fault → List ℕ
+refusal fault = codes "REFUSED " ++ shown_of (notice_of fault)
+
 -- the line; a close has none of its own
 abbrev pub line : Told → List ℕ
 line stop = codes "STOP"
-line (refused fault) = codes "REFUSED " ++ shown_of (notice_of fault)
+line (refused fault) = refusal fault
 line done = codes "OK"
 line (taken count first) = codes "OK " ++ (decimal count ++ (codes " " ++ decimal (unwrap_or first 0)))
 line closed = []

@@ -13,7 +13,8 @@ use Rattle.session.specs.Replies.{Told, stop, refused, done, plainly, message_to
 use Rattle.session.specs.declared.letter.Letter.TheVariants.{Rule, Opening, Message, Advance}
 use Rattle.session.specs.Letters.{code_of}
 use Rattle.session.specs.Stops.{account_groups, stops_for}
-use Rattle.session.specs.Views.{Meaning, SessionState}
+use Rattle.session.specs.Views.{SessionState}
+use Rattle.stage.specs.Rules.{Meaning}
 
 -- R: a rule
 abbrev pub rule_made : SessionState → Result Meaning Fault → Told × SessionState

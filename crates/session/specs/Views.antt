@@ -1,15 +1,13 @@
 -- What a session stands for. A rule stands for its meaning.
-use Rattle.std.specs.Prelude.{ℕ, Bool, List, map, Some, None, vec_items, Option}
+use Rattle.std.specs.Prelude.{ℕ, List, map, Some, None, vec_items, Option}
 use Rattle.std.specs.Option.{option_map}
 use Rattle.stage.specs.declared.any_rule.AnyRule.{AnyRule}
 use Rattle.stage.specs.Asked.{meaning_of}
+use Rattle.stage.specs.Rules.{Meaning}
 use Rattle.book.specs.Calls.{Place}
 use Rattle.book.specs.Opens.{held_in}
 use Rattle.book.specs.Rows.{Row, row_of}
 use Rattle.session.specs.declared.session.Session.{Session}
-
-abbrev pub Meaning : Type 0
-Meaning = List Bool → ℕ
 
 pub record SessionState : Type 0 where
   -- the rule, once one is accepted

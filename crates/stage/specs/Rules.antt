@@ -2,6 +2,10 @@
 use Rattle.std.specs.Prelude.{ℕ, zero, suc, ◌+◌, Bool, false, cond, not, ◌&&◌, ◌||◌, List, length, nat_le, nat_lt}
 use Rattle.stage.specs.Marked.{on_day}
 
+-- a stage rule by its meaning: the stage that it makes of marks
+abbrev pub Meaning : Type 0
+Meaning = List Bool → ℕ
+
 -- how many of the days 1 to n pass a test
 unfoldable pub days_where : (ℕ → Bool) → ℕ → ℕ
 days_where test zero = 0

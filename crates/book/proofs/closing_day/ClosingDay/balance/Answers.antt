@@ -1,9 +1,9 @@
 use Rattle.std.proofs.Common.{◌≡◌, nat_abs, sym, ap, ◌∙◌, arith, w64, to_z, of_z, rules}
 use Rattle.std.proofs.lemmas.Int.{to_z-of_z}
 use Rattle.settlement.specs.Amounts.{to_cents}
-use Rattle.book.specs.Closes.{cost_today, balance_today}
+use Rattle.book.specs.Closes.{balance_today}
 use Rattle.book.specs.States.{State, state_of, day_quarters}
-use Rattle.book.proofs.Costs.{cost_none, cost_more}
+use Rattle.book.proofs.Costs.{cost_today, cost_none, cost_more}
 use Rattle.book.proofs.closing_day.ClosingDay.balance.Goals as goal
 
 pub loop-t-init : goal.loop-t-init

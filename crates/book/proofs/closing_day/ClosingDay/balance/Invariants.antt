@@ -1,7 +1,7 @@
 use Rattle.std.proofs.Common.{◌≡◌, ◌*◌, ◌≤◌, nat_abs}
 use Rattle.forms.specs.Bounds.{price_bound}
 use Rattle.settlement.specs.Amounts.{most_imbalance}
-use Rattle.book.specs.Closes.{cost_today}
+use Rattle.book.proofs.Costs.{cost_today}
 use Rattle.book.specs.States.{state_of}
 use Rattle.book.proofs.closing_day.ClosingDay.balance.Given as goal
 
