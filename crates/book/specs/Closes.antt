@@ -8,7 +8,6 @@ use Rattle.forms.specs.Closings.{ClosingFormed, closing_sizes, closing_check, fe
 use Rattle.stage.specs.Marked.{on_day}
 use Rattle.settlement.specs.declared.phase.Phase.TheVariants.{Ahead}
 use Rattle.settlement.specs.Amounts.{quarter_cost, balance_amount}
-use Rattle.settlement.specs.Positions.{net_purchases}
 use Rattle.book.specs.Rows.{Row}
 use Rattle.book.specs.Queries.{day_check}
 use Rattle.book.specs.States.{State, GroupState, size, kept, today, day_quarters, statements, is_after}

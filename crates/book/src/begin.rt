@@ -1,5 +1,5 @@
 //! A new ledger.
-ghost use Rattle.std.specs.Prelude.{◌≡◌, ℕ, ◌≤◌, false, map, replicate, slice_index};
+ghost use Rattle.std.specs.Prelude.{◌≡◌, ℕ, false, map, replicate, slice_index};
 ghost use Rattle.forms.specs.Bounds.{most_groups};
 ghost use Rattle.forms.specs.Openings.{terms_in};
 ghost use Rattle.book.specs.Kept.{days_in, penalties_in, balance_in};

@@ -6,7 +6,7 @@ ghost use Rattle.forms.specs.Openings.{terms_in};
 ghost use Rattle.stage.specs.Marked.{marks_of};
 ghost use Rattle.book.specs.Cuts.{charged, cut_off, in_phase, advanced};
 ghost use Rattle.book.specs.Kept.{most_penalty, days_in, penalties_in};
-ghost use Rattle.book.specs.States.{state_of, size, account_of};
+ghost use Rattle.book.specs.States.{state_of, account_of};
 
 use crate::group_account::GroupAccount;
 use crate::ledger::Ledger;

@@ -1,11 +1,10 @@
 //! Questions: they change nothing.
 ghost use Rattle.forms.specs.Checks.{refuse_if};
-ghost use Rattle.std.specs.Prelude.{not, ◌≡◌, ◌+◌, ◌-◌, ◌<◌, ◌≤◌, map, length};
-ghost use Rattle.stage.specs.Marked.{marks_of};
+ghost use Rattle.std.specs.Prelude.{not, ◌≡◌, ◌+◌, ◌<◌};
 ghost use Rattle.book.specs.Kept.{cut_offs};
 ghost use Rattle.std.specs.Int.{is_in_range};
 ghost use Rattle.book.specs.Queries.{Numbered, group_check, quarter_check, position_answer, trade_answer, standing_answer, total_answer, standing_of, total_of};
-ghost use Rattle.book.specs.States.{state_of, size, kept, day_quarters, account_of};
+ghost use Rattle.book.specs.States.{state_of, size, day_quarters};
 
 use crate::answers::{Standing, Total};
 use crate::ledger::Ledger;

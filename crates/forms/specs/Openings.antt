@@ -1,11 +1,10 @@
 -- The opening form: a byte g (groups), a byte k (tariff rows), g group rows, k tariff rows. Groups and rows count from 0 here.
 use Rattle.std.specs.Prelude.{◌≡◌, ℕ, ◌+◌, ◌-◌, ◌*◌, ◌≤◌, Bool, not, ◌&&◌, ◌||◌, List, map, length, take, ◌==◌, nat_le, nat_lt}
-use Rattle.std.specs.Int.{is_in_range}
 use Rattle.std.specs.Result.{result_and}
 use Rattle.std.specs.List.{range_with_len}
 use Rattle.forms.specs.declared.terms.Opening.{Opening}
 use Rattle.forms.specs.declared.fault.Fault.TheVariants.{ShortForm, WrongSize, WrongLength, UnlawfulGroup, UnlawfulTariff}
-use Rattle.forms.specs.Bounds.{least_groups, most_groups, least_rows, most_rows, power_bound, fee_bound, rate_bound}
+use Rattle.forms.specs.Bounds.{least_groups, most_groups, least_rows, most_rows}
 use Rattle.forms.specs.Bytes.{byte, be32}
 use Rattle.forms.specs.Checks.{Verdict, refuse_if, each_of}
 use Rattle.forms.specs.Figures.{GroupFigures, RateFigures, Terms}

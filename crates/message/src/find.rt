@@ -1,5 +1,5 @@
 //! Which series of a message is about what.
-ghost use Rattle.std.specs.Prelude.{◌≡◌, ◌<◌, ◌≤◌};
+ghost use Rattle.std.specs.Prelude.{◌≡◌, ◌≤◌};
 ghost use Rattle.forms.specs.Slots.{slot_of, kind_of, counter_of};
 ghost use Rattle.message.specs.Form.{series_count};
 ghost use Rattle.message.specs.Places.{first_of, head_is, place_of, place_under, IsFirst};

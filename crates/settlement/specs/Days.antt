@@ -1,7 +1,6 @@
 -- The trades of a whole day, as two lists of sums.
-use Rattle.std.specs.Prelude.{◌≡◌, ℕ, ◌+◌, ◌^◌, ◌<◌, ◌≤◌, cond, List, length, ℤ, pos, ◌-ℤ◌, slice_index, ◌==◌}
+use Rattle.std.specs.Prelude.{◌≡◌, ℕ, ◌+◌, ◌^◌, ◌<◌, ◌≤◌, List, length, ℤ, pos, ◌-ℤ◌, slice_index}
 use Rattle.settlement.specs.Sheets.{words_per_slot}
-use Rattle.settlement.specs.Sums.{sumℤ}
 
 -- what is taken less what is given, in quarter hour t
 abbrev pub day_net : List ℕ → List ℕ → ℕ → ℤ

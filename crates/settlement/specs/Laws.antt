@@ -1,5 +1,5 @@
 -- What holds of every account of trades, positions and amounts.
-use Rattle.std.specs.Prelude.{◌≡◌, ℕ, ◌+◌, ◌<◌, ◌≤◌, true, List, length, ℤ, pos, ◌-ℤ◌, ◌*ℤ◌, slice_index_or, unsigned_abs}
+use Rattle.std.specs.Prelude.{◌≡◌, ℕ, ◌<◌, ◌≤◌, true, List, ℤ, pos, ◌-ℤ◌, ◌*ℤ◌, unsigned_abs}
 use Rattle.forms.specs.Slots.{out_to, in_from}
 use Rattle.forms.specs.Figures.{GroupFigures, RateFigures}
 use Rattle.forms.specs.Lawful.{NeverFalls}

@@ -1,5 +1,5 @@
 -- Trades, check values, open positions and excesses, of what the groups have sent. Powers are whole kW.
-use Rattle.std.specs.Prelude.{ℕ, ◌-◌, min, Bool, cond, ℤ, pos, ◌+ℤ◌, ◌-ℤ◌, neg_ℤ, ◌==◌, int_lt, nat_le, nat_lt, unsigned_abs}
+use Rattle.std.specs.Prelude.{ℕ, ◌-◌, min, Bool, cond, ℤ, pos, ◌+ℤ◌, ◌-ℤ◌, neg_ℤ, int_lt, nat_le, nat_lt, unsigned_abs}
 use Rattle.forms.specs.Slots.{out_to, in_from, cons}
 use Rattle.forms.specs.Figures.{GroupFigures}
 use Rattle.settlement.specs.declared.phase.Phase.{Phase}

@@ -4,7 +4,7 @@
 ghost use Rattle.std.specs.Prelude.{◌≡◌, ◌*◌, ◌<◌, ◌≤◌};
 ghost use Rattle.forms.specs.Bounds.{most_groups};
 ghost use Rattle.forms.specs.Slots.{slot_of};
-ghost use Rattle.settlement.specs.Sheets.{words_per_slot, slots, sheet_size, slot_number, slot_place, Within, SlotsApart, SheetOf};
+ghost use Rattle.settlement.specs.Sheets.{slots, sheet_size, slot_number, slot_place, Within, SlotsApart, SheetOf};
 
 use forms::slot::Slot;
 
