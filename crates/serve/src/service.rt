@@ -1,10 +1,11 @@
 //! A session between an input and an output.
-ghost use Rattle.std.specs.Prelude.{◌≡◌, ◌≢◌, ◌-◌, ◌++◌, ◌∷◌, [], ◌≤◌, length, take, Some, OnOk, IfOk, IfSome, nat_le};
-ghost use Rattle.std.specs.Io.Buffered.{writer_contents};
-ghost use Rattle.std.specs.Io.KnownBytes.{Appends};
+ghost use Rattle.std.specs.Prelude.{◌≡◌, ◌≢◌, ◌-◌, ◌++◌, ◌∷◌, [], ◌≤◌, length, take, Some, None, OnOk, IfOk, IfSome, IfNone, nat_le};
+ghost use Rattle.std.specs.Io.Buffered.{writer_inner, writer_buffer, writer_contents};
+ghost use Rattle.std.specs.Io.KnownBytes.{Appends, Keeps};
 ghost use Rattle.serve.specs.Capacity.{capacity};
 ghost use Rattle.session.specs.Frames.{body_of, frame_head};
 ghost use Rattle.session.specs.Replies.{told_by, line, closed};
+ghost use Rattle.session.specs.Views.{view_of};
 
 use crate::input_buffer::InputBuffer;
 use session::frame::{FRAME_HEAD, body_length};
@@ -26,7 +27,12 @@ pub(crate) struct Service<R, W: Write + Drop> {
 
 impl<R: Read + Drop, W: Write + Drop> Service<R, W> {
     /// A service before its first frame.
-    pub(crate) fn new(heap: Global, most: u8, input: R, output: W) -> io::Result<Service<R, W>> {
+    pub(crate) fn new(heap: Global, most: u8, input: R, output: W) -> io::Result<Service<R, W>>
+        ensures most { IfOk result (λ s. s.most ≡ most) }
+        ensures input { IfOk result (λ s. s.input ≡ []) }
+        ensures output { IfOk result (λ s. (writer_inner s.output ≡ output) × (writer_buffer s.output ≡ [])) }
+        ensures session { IfOk result (λ s. view_of s.session ≡ record { rule = None; place = None; sheet = []; rows = [] }) }
+    {
         Ok(Service {
             heap,
             most,
@@ -54,7 +60,11 @@ impl<R: Read + Drop, W: Write + Drop> Service<R, W> {
     }
 
     /// Takes the next frame and answers the session's reply to it, or nothing where the input has ended.
-    fn take_frame(&mut self) -> io::Result<Option<Reply>> {
+    fn take_frame(&mut self) -> io::Result<Option<Reply>>
+        ensures none { IfOk result (λ o. IfNone o (self.new.session ≡ self.old.session)) }
+        ensures printed { Keeps (writer_contents W.contents self.old.output) (writer_contents W.contents self.new.output) }
+        ensures most { self.new.most ≡ self.old.most }
+    {
         if !self.wait_for(FRAME_HEAD)? {
             let cut_short = self.input.held() > 0;
             return Ok(cut_short.then_some(Reply::Stop));
@@ -75,7 +85,9 @@ impl<R: Read + Drop, W: Write + Drop> Service<R, W> {
     fn read_body(&mut self, head: [u8; FRAME_HEAD]) -> io::Result<Option<usize>>
         ensures frame { IfOk result (λ o. IfSome o (λ n. (body_of head ≡ Some (n - frame_head)) × (frame_head ≤ n) × (n ≤ length self.new.input))) }
         ensures kept { take (length self.old.input) self.new.input ≡ self.old.input }
+        ensures printed { Keeps (writer_contents W.contents self.old.output) (writer_contents W.contents self.new.output) }
         ensures session { self.new.session ≡ self.old.session }
+        ensures most { self.new.most ≡ self.old.most }
     {
         let Some(size) = body_length(head) else {
             return Ok(None);
@@ -91,7 +103,9 @@ impl<R: Read + Drop, W: Write + Drop> Service<R, W> {
         requires { wanted ≤ capacity }
         ensures enough { IfOk result (λ enough. enough ≡ nat_le wanted (length self.new.input)) }
         ensures kept { take (length self.old.input) self.new.input ≡ self.old.input }
+        ensures printed { Keeps (writer_contents W.contents self.old.output) (writer_contents W.contents self.new.output) }
         ensures session { self.new.session ≡ self.old.session }
+        ensures most { self.new.most ≡ self.old.most }
     {
         if wanted <= self.input.held() {
             return Ok(true);
@@ -103,7 +117,9 @@ impl<R: Read + Drop, W: Write + Drop> Service<R, W> {
     /// Prints a reply: its line, or the result rows of a close.
     fn print(&mut self, reply: Reply) -> io::Result<()>
         ensures line { OnOk result (told_by reply ≢ closed → Appends (writer_contents W.contents self.old.output) (writer_contents W.contents self.new.output) (line (told_by reply) ++ 10 ∷ [])) }
+        ensures input { self.new.input ≡ self.old.input }
         ensures session { self.new.session ≡ self.old.session }
+        ensures most { self.new.most ≡ self.old.most }
     {
         if let Reply::Closed = reply {
             for row in self.session.rows() {
