@@ -1,1 +1,3 @@
 pub mod Capacity
+pub mod Held
+pub mod Taken

@@ -1,7 +1,8 @@
 //! What has come on an input and is not yet taken.
-ghost use Rattle.std.specs.Prelude.{◌≡◌, ℕ, ◌+◌, ◌-◌, ◌≤◌, List, [], length, take, drop, IfOk, vec_len, nat_le};
-ghost use Rattle.std.specs.Io.KnownBytes.{ReadConsumes};
+ghost use Rattle.std.specs.Prelude.{◌≡◌, ◌+◌, ◌-◌, ◌≤◌, [], false, length, take, drop, IfOk, vec_len, nat_le};
+ghost use Rattle.std.specs.Io.KnownBytes.{ReadConsumes, Keeps, IsAtEnd};
 ghost use Rattle.serve.specs.Capacity.{capacity};
+ghost use Rattle.serve.specs.Held.{Held, to_come};
 
 use std::alloc::{AllocError, Global};
 use std::io;
@@ -14,18 +15,18 @@ const CAPACITY: usize = 131_072;
 /// An input with a buffer in front of it. `bytes[start..end]` has come and is not yet taken.
 // Tried: with a `BufReader` of 8 KiB and each body copied out of it, the program took an eighth longer.
 #[derive(Drop)]
-pub struct InputBuffer<R> {
+pub struct InputBuffer<R: Read> {
     input: R,
     bytes: Vec<u8>,
     start: usize,
     end: usize,
 }
 
-// Clauses see the bytes that have come and are not yet taken.
-impl<R> Model for InputBuffer<R> {
-    ghost Value = { List ℕ };
+// Clauses see the bytes that have come and are not yet taken, and those that the input will still give.
+impl<R: Read> Model for InputBuffer<R> {
+    ghost Value = { Held };
 
-    ghost view = { λ b. take (b.end - b.start) (drop b.start b.bytes.items) };
+    ghost view = { λ b. record { bytes = take (b.end - b.start) (drop b.start b.bytes.items); rest = R.remaining b.input } };
 
     ghost invariant = { λ b. (b.start ≤ b.end) × (b.end ≤ capacity) × (vec_len b.bytes ≡ capacity) };
 }
@@ -33,7 +34,7 @@ impl<R> Model for InputBuffer<R> {
 impl<R: Read + Drop> InputBuffer<R> {
     /// An empty buffer in front of the input.
     pub fn new(heap: Global, input: R) -> Result<InputBuffer<R>, AllocError>
-        ensures { IfOk result (λ b. b ≡ []) }
+        ensures { IfOk result (λ b. b ≡ record { bytes = []; rest = R.remaining input }) }
     {
         let bytes = vec![in heap; 0u8; CAPACITY]?;
         Ok(InputBuffer {
@@ -46,15 +47,15 @@ impl<R: Read + Drop> InputBuffer<R> {
 
     /// How many bytes have come and are not yet taken.
     pub fn held(&self) -> usize
-        ensures { result ≡ length self.now }
+        ensures { result ≡ length self.now.bytes }
     {
         self.end - self.start
     }
 
     /// The first so many bytes that have come and are not yet taken.
     pub fn front(&self, count: usize) -> &[u8]
-        requires { count ≤ length self.now }
-        ensures value { result.now ≡ take count self.now }
+        requires { count ≤ length self.now.bytes }
+        ensures value { result.now ≡ take count self.now.bytes }
         ensures len { length result.now ≡ count }
     {
         let from = self.start;
@@ -63,8 +64,8 @@ impl<R: Read + Drop> InputBuffer<R> {
 
     /// Takes so many bytes.
     pub fn consume(&mut self, count: usize)
-        requires { count ≤ length self.old }
-        ensures { self.new ≡ drop count self.old }
+        requires { count ≤ length self.old.bytes }
+        ensures { self.new ≡ record self.old { bytes = drop count self.old.bytes } }
     {
         self.start += count;
     }
@@ -73,8 +74,10 @@ impl<R: Read + Drop> InputBuffer<R> {
     /// before. What was held stays in front.
     pub fn fill(&mut self, wanted: usize) -> io::Result<bool>
         requires { wanted ≤ capacity }
-        ensures enough { IfOk result (λ enough. enough ≡ nat_le wanted (length self.new)) }
-        ensures kept { take (length self.old) self.new ≡ self.old }
+        ensures enough { IfOk result (λ enough. enough ≡ nat_le wanted (length self.new.bytes)) }
+        ensures short { IfOk result (λ enough. enough ≡ false → IsAtEnd self.new.rest) }
+        ensures kept { take (length self.old.bytes) self.new.bytes ≡ self.old.bytes }
+        ensures none_lost { Keeps (to_come self.old) (to_come self.new) }
     {
         // All room is behind what is held.
         self.bytes.copy_within(self.start..self.end, 0);

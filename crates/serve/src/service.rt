@@ -1,10 +1,13 @@
 //! A session between an input and an output.
-ghost use Rattle.std.specs.Prelude.{◌≡◌, ◌≢◌, ◌-◌, ◌++◌, ◌∷◌, [], ◌≤◌, length, take, Some, OnOk, IfOk, IfSome, nat_le};
-ghost use Rattle.std.specs.Io.Buffered.{writer_contents};
-ghost use Rattle.std.specs.Io.KnownBytes.{Appends};
+ghost use Rattle.std.specs.Prelude.{◌≡◌, ◌≢◌, ◌-◌, ◌++◌, ◌∷◌, [], ◌≤◌, length, take, false, Some, None, OnOk, IfOk, IfSome, IfNone, nat_le};
+ghost use Rattle.std.specs.Io.Buffered.{writer_inner, writer_buffer, writer_contents};
+ghost use Rattle.std.specs.Io.KnownBytes.{Appends, Keeps, IsAtEnd};
 ghost use Rattle.serve.specs.Capacity.{capacity};
+ghost use Rattle.serve.specs.Held.{to_come};
+ghost use Rattle.serve.specs.Taken.{TakesFrame, BodyIsCut};
 ghost use Rattle.session.specs.Frames.{body_of, frame_head};
 ghost use Rattle.session.specs.Replies.{told_by, line, closed};
+ghost use Rattle.session.specs.Views.{view_of};
 
 use crate::input_buffer::InputBuffer;
 use session::frame::{FRAME_HEAD, body_length};
@@ -16,7 +19,7 @@ use std::io::{BufWriter, Read, Write};
 
 /// A session of at most so many groups, which takes the frames of an input and prints what it answers.
 #[derive(Drop)]
-pub(crate) struct Service<R, W: Write + Drop> {
+pub(crate) struct Service<R: Read, W: Write + Drop> {
     heap: Global,
     most: u8,
     input: InputBuffer<R>,
@@ -26,7 +29,12 @@ pub(crate) struct Service<R, W: Write + Drop> {
 
 impl<R: Read + Drop, W: Write + Drop> Service<R, W> {
     /// A service before its first frame.
-    pub(crate) fn new(heap: Global, most: u8, input: R, output: W) -> io::Result<Service<R, W>> {
+    pub(crate) fn new(heap: Global, most: u8, input: R, output: W) -> io::Result<Service<R, W>>
+        ensures most { IfOk result (λ s. s.most ≡ most) }
+        ensures input { IfOk result (λ s. s.input ≡ record { bytes = []; rest = R.remaining input }) }
+        ensures output { IfOk result (λ s. (writer_inner s.output ≡ output) × (writer_buffer s.output ≡ [])) }
+        ensures session { IfOk result (λ s. view_of s.session ≡ record { rule = None; place = None; sheet = []; rows = [] }) }
+    {
         Ok(Service {
             heap,
             most,
@@ -54,7 +62,13 @@ impl<R: Read + Drop, W: Write + Drop> Service<R, W> {
     }
 
     /// Takes the next frame and answers the session's reply to it, or nothing where the input has ended.
-    fn take_frame(&mut self) -> io::Result<Option<Reply>> {
+    fn take_frame(&mut self) -> io::Result<Option<Reply>>
+        ensures step { IfOk result (λ o. IfSome o (λ reply. TakesFrame self.old.most (view_of self.old.session) (told_by reply) (view_of self.new.session) self.old.input self.new.input)) }
+        ensures none { IfOk result (λ o. IfNone o (self.new.session ≡ self.old.session)) }
+        ensures end { IfOk result (λ o. IfNone o (IsAtEnd (to_come self.new.input))) }
+        ensures printed { Keeps (writer_contents W.contents self.old.output) (writer_contents W.contents self.new.output) }
+        ensures most { self.new.most ≡ self.old.most }
+    {
         if !self.wait_for(FRAME_HEAD)? {
             let cut_short = self.input.held() > 0;
             return Ok(cut_short.then_some(Reply::Stop));
@@ -73,9 +87,13 @@ impl<R: Read + Drop, W: Write + Drop> Service<R, W> {
     /// Waits for the body of a frame, which follows its head, and answers the length of both, or nothing
     /// where the head announces too much or the body is cut short.
     fn read_body(&mut self, head: [u8; FRAME_HEAD]) -> io::Result<Option<usize>>
-        ensures frame { IfOk result (λ o. IfSome o (λ n. (body_of head ≡ Some (n - frame_head)) × (frame_head ≤ n) × (n ≤ length self.new.input))) }
-        ensures kept { take (length self.old.input) self.new.input ≡ self.old.input }
+        ensures frame { IfOk result (λ o. IfSome o (λ n. (body_of head ≡ Some (n - frame_head)) × (frame_head ≤ n) × (n ≤ length self.new.input.bytes))) }
+        ensures none { IfOk result (λ o. IfNone o (BodyIsCut head self.new.input)) }
+        ensures kept { take (length self.old.input.bytes) self.new.input.bytes ≡ self.old.input.bytes }
+        ensures none_lost { Keeps (to_come self.old.input) (to_come self.new.input) }
+        ensures printed { Keeps (writer_contents W.contents self.old.output) (writer_contents W.contents self.new.output) }
         ensures session { self.new.session ≡ self.old.session }
+        ensures most { self.new.most ≡ self.old.most }
     {
         let Some(size) = body_length(head) else {
             return Ok(None);
@@ -89,9 +107,13 @@ impl<R: Read + Drop, W: Write + Drop> Service<R, W> {
     /// answered goes out before more is waited for.
     fn wait_for(&mut self, wanted: usize) -> io::Result<bool>
         requires { wanted ≤ capacity }
-        ensures enough { IfOk result (λ enough. enough ≡ nat_le wanted (length self.new.input)) }
-        ensures kept { take (length self.old.input) self.new.input ≡ self.old.input }
+        ensures enough { IfOk result (λ enough. enough ≡ nat_le wanted (length self.new.input.bytes)) }
+        ensures short { IfOk result (λ enough. enough ≡ false → IsAtEnd self.new.input.rest) }
+        ensures kept { take (length self.old.input.bytes) self.new.input.bytes ≡ self.old.input.bytes }
+        ensures none_lost { Keeps (to_come self.old.input) (to_come self.new.input) }
+        ensures printed { Keeps (writer_contents W.contents self.old.output) (writer_contents W.contents self.new.output) }
         ensures session { self.new.session ≡ self.old.session }
+        ensures most { self.new.most ≡ self.old.most }
     {
         if wanted <= self.input.held() {
             return Ok(true);
@@ -103,7 +125,9 @@ impl<R: Read + Drop, W: Write + Drop> Service<R, W> {
     /// Prints a reply: its line, or the result rows of a close.
     fn print(&mut self, reply: Reply) -> io::Result<()>
         ensures line { OnOk result (told_by reply ≢ closed → Appends (writer_contents W.contents self.old.output) (writer_contents W.contents self.new.output) (line (told_by reply) ++ 10 ∷ [])) }
+        ensures input { self.new.input ≡ self.old.input }
         ensures session { self.new.session ≡ self.old.session }
+        ensures most { self.new.most ≡ self.old.most }
     {
         if let Reply::Closed = reply {
             for row in self.session.rows() {
