@@ -9,6 +9,7 @@ pub mod Flagging
 pub mod Growing
 pub mod Laying
 pub mod Meaning
+pub mod Numbering
 pub mod Powers
 pub mod RowLists
 pub mod Submitting

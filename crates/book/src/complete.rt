@@ -3,13 +3,13 @@ ghost use Rattle.std.specs.Prelude.{◌≡◌, ◌<◌, ◌&&◌, is_some};
 ghost use Rattle.forms.specs.Checks.{refuse_if};
 ghost use Rattle.forms.specs.declared.fault.Fault.TheVariants.{MissingSeries};
 ghost use Rattle.forms.specs.Slots.{cons, prod, pump};
-ghost use Rattle.message.specs.Places.{first_of, sent_in};
-ghost use Rattle.settlement.specs.Sheets.{slots};
+ghost use Rattle.message.specs.Places.{first_of, place_of, sent_in};
+ghost use Rattle.settlement.specs.Sheets.{slots, slot_at};
 ghost use Rattle.book.specs.Messages.{left_out, incomplete};
 ghost use Rattle.book.specs.States.{state_of, size};
 
 use crate::sending::Sending;
-use crate::slots::slot_at;
+use crate::slots::{places, slot_at};
 use forms::fault::Fault;
 use forms::slot::Slot;
 use settlement::sheet::slots_per_group;
@@ -37,11 +37,22 @@ impl Sending<'_, '_, '_> {
                 .is_none()
     }
 
+    /// The same, by the place in the message of the slot's series: where it has one, no search is made.
+    fn leaves_out_by(&self, number: usize, place: Option<u8>) -> bool
+        requires there { number < slots (size (state_of self.now.day.ledger.now)) }
+        requires place { place ≡ place_of self.now.message.bytes.now (slot_at (size (state_of self.now.day.ledger.now)) number) }
+        ensures { result ≡ left_out (state_of self.now.day.ledger.now) self.now.own self.now.message.bytes.now number }
+    {
+        place.is_none() && self.leaves_out_at(number)
+    }
+
     /// Whether a series that the group has had accepted today is left out.
     fn leaves_out(&self) -> bool
         ensures { result ≡ is_some (first_of (left_out (state_of self.now.day.ledger.now) self.now.own self.now.message.bytes.now) (slots (size (state_of self.now.day.ledger.now)))) }
     {
-        (0..slots_per_group(self.day.ledger.groups())).any(|number| self.leaves_out_at(number))
+        let groups = self.day.ledger.groups();
+        let places = places(groups, &self.message);
+        (0..slots_per_group(groups)).any(|number| self.leaves_out_by(number, places[number]))
     }
 
     /// Refuses a message that leaves out a series accepted today, or a forecast of a metered group.

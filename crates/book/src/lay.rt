@@ -7,7 +7,7 @@ ghost use Rattle.book.specs.States.{state_of, size, day_quarters};
 
 use crate::ledger::{FLAGS, Ledger};
 use crate::sending::Sending;
-use crate::slots::slot_at;
+use crate::slots::places;
 use message::Message;
 use settlement::sheet::{WORDS_PER_SLOT, slots_per_group};
 
@@ -32,9 +32,11 @@ impl Ledger {
         requires sheet { length sheet.old ≡ sheet_size (size (state_of self.now)) }
         ensures { sheet.new ≡ sheet_after (size (state_of self.now)) (day_quarters (state_of self.now)) own message.now.bytes.now sheet.old }
     {
+        let groups = self.groups();
+        let places = places(groups, message);
         // By its number: the place of a slot is reckoned.
-        for number in 0..slots_per_group(self.groups()) {
-            if let Some(i) = message.find(slot_at(self.groups(), number)) {
+        for number in 0..slots_per_group(groups) {
+            if let Some(i) = places[number] {
                 let at = self.place(own, number) * WORDS_PER_SLOT;
                 lay_series(message, i, at, sheet);
             }
@@ -49,11 +51,12 @@ impl Sending<'_, '_, '_> {
     {
         let ledger = self.day.ledger;
         let first = ledger.place(self.own, 0);
-        let slots = slots_per_group(ledger.groups());
+        let groups = ledger.groups();
+        let slots = slots_per_group(groups);
+        let places = places(groups, &self.message);
         let mut sent = ledger.sent;
         for (number, flag) in sent[first..first + slots].iter_mut().enumerate() {
-            let slot = slot_at(ledger.groups(), number);
-            *flag = self.message.find(slot).is_some();
+            *flag = places[number].is_some();
         }
         sent
     }

@@ -16,8 +16,9 @@ loop-number-preserved c =
     let n = c.loop-number.number in
     let xs = c.loop-number.flag-items in
     let within : n < length xs = omega (arith, c.loop-number-test.true, c.loop-number.auto.flag-items) in
-    let slot = c.slot_at-slot.ensures ∙ ap (λ m. slot_at m n) c.groups-in-loop-number.ensures.value in
-    let is : c.is_some.result ≡ sent_in form (slot_at g n) = c.is_some.ensures ∙ ap is_some (c.find.ensures.value ∙ ap (place_of form) slot) in
+    let below : n < slots c.groups-groups.result = omega (arith, within, c.loop-number.auto.flag-items, c.slots_per_group-slots.ensures) in
+    let placed = c.places-places.ensures n below ∙ ap (λ m. place_of form (slot_at m n)) c.groups-groups.ensures.value in
+    let is : c.is_some.result ≡ sent_in form (slot_at g n) = c.is_some.ensures ∙ ap is_some placed in
     λ k l. ap (λ v. get_or (set xs n v) k false) is ∙ fill_by_more (λ m. sent_in form (slot_at g m)) xs n false within c.loop-number.invariant k l
 
 pub returns : goal.returns
@@ -27,10 +28,10 @@ returns c =
     let sent = self.day.ledger.now.sent in
     let a = c.place-first.result in
     let k = a + c.slots_per_group-slots.result - a in
-    let count : k ≡ slots (size s) = omega (arith, c.slots_per_group-slots.ensures ∙ ap slots c.groups.ensures.value) in
+    let count : k ≡ slots (size s) = omega (arith, c.slots_per_group-slots.ensures ∙ ap slots c.groups-groups.ensures.value) in
     let below = mul-le (self.own + 1) (slots (size s)) (size s) (slots (size s)) (omega (arith, self.read.sender)) (omega arith) in
     let room : a + k ≤ length sent =
-    omega (arith, c.place-first.ensures.value, count, add-mul self.own 1 (slots (size s)), below, flags_enough (size s) (omega (arith, c.groups.ensures.value, c.groups.ensures.few)), self.day.ledger.now.flags) in
+    omega (arith, c.place-first.ensures.value, count, add-mul self.own 1 (slots (size s)), below, flags_enough (size s) (omega (arith, c.groups-groups.ensures.value, c.groups-groups.ensures.few)), self.day.ledger.now.flags) in
     let long = length-take-le k (drop a sent) (omega (arith, room, length-drop a sent)) in
     flags_between (size s) self.own self.message.bytes.now sent a k c.loop-number.flag-items (omega (arith, c.place-first.ensures.value)) count room c.loop-number.auto.flag-items
     (λ n l. c.loop-number.invariant n (omega (arith, long, c.loop-number-test.false)))
