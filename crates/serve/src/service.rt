@@ -1,6 +1,6 @@
 //! A session between an input and an output.
-ghost use Rattle.std.specs.Prelude.{◌≡◌, ◌≢◌, ◌-◌, ◌++◌, ◌∷◌, [], ◌≤◌, length, take, Some, OnOk, IfOk, IfSome, nat_le};
-ghost use Rattle.std.specs.Io.Buffered.{writer_contents};
+ghost use Rattle.std.specs.Prelude.{◌≡◌, ◌≢◌, ◌+◌, ◌-◌, ◌++◌, ◌∷◌, [], ◌<◌, ◌≤◌, length, take, Some, None, OnOk, IfOk, IfSome, nat_le};
+ghost use Rattle.std.specs.Io.Buffered.{writer_contents, writer_buffer};
 ghost use Rattle.std.specs.Io.KnownBytes.{Appends};
 ghost use Rattle.serve.specs.Capacity.{capacity};
 ghost use Rattle.session.specs.Frames.{body_of, frame_head};
@@ -74,6 +74,7 @@ impl<R: Read + Drop, W: Write + Drop> Service<R, W> {
     /// where the head announces too much or the body is cut short.
     fn read_body(&mut self, head: [u8; FRAME_HEAD]) -> io::Result<Option<usize>>
         ensures frame { IfOk result (λ o. IfSome o (λ n. (body_of head ≡ Some (n - frame_head)) × (frame_head ≤ n) × (n ≤ length self.new.input))) }
+        ensures short { IfOk result (λ o. o ≡ None → IfSome (body_of head) (λ n. length self.new.input < frame_head + n)) }
         ensures kept { take (length self.old.input) self.new.input ≡ self.old.input }
         ensures session { self.new.session ≡ self.old.session }
     {
@@ -91,6 +92,7 @@ impl<R: Read + Drop, W: Write + Drop> Service<R, W> {
         requires { wanted ≤ capacity }
         ensures enough { IfOk result (λ enough. enough ≡ nat_le wanted (length self.new.input)) }
         ensures kept { take (length self.old.input) self.new.input ≡ self.old.input }
+        ensures answered { IfOk result (λ _. length self.old.input < wanted → writer_buffer self.new.output ≡ []) }
         ensures session { self.new.session ≡ self.old.session }
     {
         if wanted <= self.input.held() {
