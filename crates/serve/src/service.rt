@@ -1,5 +1,5 @@
 //! A session between an input and an output.
-ghost use Rattle.std.specs.Prelude.{◌≡◌, ◌≢◌, ◌-◌, ◌++◌, ◌∷◌, [], ◌≤◌, length, take, false, Some, None, OnOk, IfOk, IfSome, IfNone, nat_le};
+ghost use Rattle.std.specs.Prelude.{◌≡◌, ◌≢◌, ◌-◌, ◌++◌, ◌∷◌, [], ◌<◌, ◌≤◌, length, take, false, Some, None, OnOk, IfOk, IfSome, IfNone, nat_le};
 ghost use Rattle.std.specs.Io.Buffered.{writer_inner, writer_buffer, writer_contents};
 ghost use Rattle.std.specs.Io.KnownBytes.{Appends, Keeps, IsAtEnd};
 ghost use Rattle.serve.specs.Capacity.{capacity};
@@ -109,6 +109,7 @@ impl<R: Read + Drop, W: Write + Drop> Service<R, W> {
         requires { wanted ≤ capacity }
         ensures enough { IfOk result (λ enough. enough ≡ nat_le wanted (length self.new.input.bytes)) }
         ensures short { IfOk result (λ enough. enough ≡ false → IsAtEnd self.new.input.rest) }
+        ensures answered { IfOk result (λ _. length self.old.input.bytes < wanted → writer_buffer self.new.output ≡ []) }
         ensures kept { take (length self.old.input.bytes) self.new.input.bytes ≡ self.old.input.bytes }
         ensures none_lost { Keeps (to_come self.old.input) (to_come self.new.input) }
         ensures printed { Keeps (writer_contents W.contents self.old.output) (writer_contents W.contents self.new.output) }
