@@ -1,1 +1,2 @@
 pub mod Reading
+mod Printing

@@ -1,15 +1,18 @@
 //! A session between an input and an output.
-ghost use Rattle.std.specs.Prelude.{◌≡◌, ◌≢◌, ◌-◌, ◌++◌, ◌∷◌, [], ◌<◌, ◌≤◌, length, take, false, Some, None, OnOk, IfOk, IfSome, IfNone, nat_le};
+ghost use Rattle.std.specs.Prelude.{◌≡◌, ◌≢◌, ◌-◌, ◌++◌, ◌∷◌, [], ◌<◌, ◌≤◌, length, map, take, false, Some, None, OnOk, IfOk, IfSome, IfNone, nat_le};
 ghost use Rattle.std.specs.Io.Buffered.{writer_inner, writer_buffer, writer_contents};
 ghost use Rattle.std.specs.Io.KnownBytes.{Appends, Keeps, IsAtEnd};
 ghost use Rattle.serve.specs.Capacity.{capacity};
 ghost use Rattle.serve.specs.Held.{to_come};
+ghost use Rattle.serve.specs.Printed.{row_lines};
 ghost use Rattle.serve.specs.Taken.{TakesFrame, BodyIsCut};
+ghost use Rattle.book.specs.Rows.{row_of};
 ghost use Rattle.session.specs.Frames.{body_of, frame_head};
 ghost use Rattle.session.specs.Replies.{told_by, line, closed};
 ghost use Rattle.session.specs.Views.{view_of};
 
 use crate::input_buffer::InputBuffer;
+use book::result_row::ResultRow;
 use session::frame::{FRAME_HEAD, body_length};
 use session::reply::Reply;
 use session::session::Session;
@@ -126,16 +129,24 @@ impl<R: Read + Drop, W: Write + Drop> Service<R, W> {
     /// Prints a reply: its line, or the result rows of a close.
     fn print(&mut self, reply: Reply) -> io::Result<()>
         ensures line { OnOk result (told_by reply ≢ closed → Appends (writer_contents W.contents self.old.output) (writer_contents W.contents self.new.output) (line (told_by reply) ++ 10 ∷ [])) }
+        ensures rows { OnOk result (told_by reply ≡ closed → Appends (writer_contents W.contents self.old.output) (writer_contents W.contents self.new.output) (row_lines (view_of self.old.session).rows)) }
         ensures input { self.new.input ≡ self.old.input }
         ensures session { self.new.session ≡ self.old.session }
         ensures most { self.new.most ≡ self.old.most }
     {
         if let Reply::Closed = reply {
-            for row in self.session.rows() {
-                writeln!(self.output, "{row}")?;
-            }
-            return Ok(());
+            return print_rows(self.session.rows(), &mut self.output);
         }
         writeln!(self.output, "{reply}")
     }
+}
+
+/// Prints each row on a line of its own.
+fn print_rows<W: Write + Drop>(rows: &[ResultRow], output: &mut BufWriter<W>) -> io::Result<()>
+    ensures { OnOk result (Appends (writer_contents W.contents output.old) (writer_contents W.contents output.new) (row_lines (map row_of rows.now))) }
+{
+    for row in rows {
+        writeln!(output, "{row}")?;
+    }
+    Ok(())
 }
