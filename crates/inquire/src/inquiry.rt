@@ -1,4 +1,6 @@
 //! The program `inquiry`: its arguments, the session of up to sixteen groups, and the table.
+ghost use Rattle.std.specs.Prelude.{IsErr};
+
 use crate::arguments::quarter_hour;
 use crate::table::table;
 use forms::bounds::MOST_GROUPS;
@@ -60,7 +62,9 @@ fn print_table(rt: &HostRuntime, session: &Session, quarters: &[u16]) -> io::Res
     output.flush()
 }
 
-fn refuse_argument(rt: &HostRuntime, argument: &str) -> io::Result<()> {
+fn refuse_argument(rt: &HostRuntime, argument: &str) -> io::Result<()>
+    ensures { IsErr result }
+{
     refuse(
         rt,
         format_args!(
