@@ -10,7 +10,6 @@ use forms::bytes::be32_at;
 use forms::kind::Kind;
 use forms::slot::Slot;
 
-// A series as it is read knows its place and its values besides what it is about, which is its `Slot`.
 /// Whether a trade goes out to the other group or comes in from it.
 #[derive(Clone, Copy)]
 pub enum Direction {
@@ -26,6 +25,7 @@ pub enum ForecastKind {
     Pump,
 }
 
+// Beside what it is about, which is its `Slot`, a series as read knows its place and its values.
 /// One series, with its place in the message from 1. Its values are still in bytes. The counter of
 /// a trade is that of its head, the other group counted from 1.
 #[derive(Clone, Copy)]

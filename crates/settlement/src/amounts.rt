@@ -3,13 +3,10 @@ ghost use Rattle.std.specs.Prelude.{◌≡◌, ◌*◌, ◌^◌, ◌<◌, ◌≤
 ghost use Rattle.forms.specs.Bounds.{power_bound, rate_bound, price_bound};
 ghost use Rattle.forms.specs.Figures.{rates_of};
 ghost use Rattle.settlement.specs.Sheets.{words_per_slot};
-ghost use Rattle.settlement.specs.Statements.{sent_on};
-ghost use Rattle.settlement.specs.Positions.{net_purchases};
 ghost use Rattle.settlement.specs.Days.{day_net};
 ghost use Rattle.settlement.specs.Amounts.{most_imbalance, row_for, penalty as penalty_for, to_cents, imbalance_cost};
 
 use crate::day::DayTrades;
-use crate::sheet::WholeSheet;
 use forms::group::TariffRow;
 
 /// 4000 kW over a quarter hour are a MWh.
@@ -75,19 +72,6 @@ impl DayTrades {
         ensures bound { unsigned_abs result ≤ most_imbalance * price_bound }
     {
         let imbalance = self.net(t) + i64::from(feed);
-        imbalance_cost(imbalance, long, short)
-    }
-}
-
-impl WholeSheet<'_, '_> {
-    /// What group `a`'s imbalance costs in the quarter hour `t`, as `DayTrades::quarter_cost` tells it.
-    pub fn quarter_cost(&self, a: usize, t: usize, feed: i32, long: i32, short: i32) -> i64
-        requires within { (a < self.now.groups) × (t < words_per_slot) }
-        requires lawful { (unsigned_abs feed ≤ power_bound) × ((unsigned_abs long ≤ price_bound) × (unsigned_abs short ≤ price_bound)) }
-        ensures value { result ≡ imbalance_cost (net_purchases (sent_on self.now) self.now.groups t a +ℤ feed) long short }
-        ensures bound { unsigned_abs result ≤ most_imbalance * price_bound }
-    {
-        let imbalance = self.sums(a, t).confirmed + i64::from(feed);
         imbalance_cost(imbalance, long, short)
     }
 }

@@ -78,16 +78,6 @@ impl WholeSheet<'_, '_> {
         )
     }
 
-    /// Group `a`'s open position by its own series.
-    pub fn stated_open(&self, figures: &Group, a: usize, t: usize) -> i64
-        requires { (a < self.now.groups) × (t < words_per_slot) }
-        ensures value { result ≡ stated_open (sent_on self.now) (figures_of figures.now) self.now.groups t a }
-        ensures bound { unsigned_abs result ≤ 2 ^ 37 }
-    {
-        let consumption = i64::from(self.value(a, Slot::Cons, t));
-        open_position(figures, self.sums(a, t).stated - consumption)
-    }
-
     // One turn of the sum below, so it is given all that the sum has.
     // How far group `a`'s confirmed open position lies beyond its limit, by its confirmed trades of the day.
     fn confirmed_excess(&self, figures: &Group, trades: &DayTrades, a: usize, t: usize) -> u64
