@@ -10,6 +10,7 @@ pub mod Replay
 pub mod Running
 pub mod Sending
 pub mod Sessions
+pub mod Stepping
 pub mod Whole
 pub mod Opening
 pub mod Outcomes

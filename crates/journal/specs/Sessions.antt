@@ -2,11 +2,13 @@
 use Rattle.std.specs.Prelude.{◌≡◌, ◌≢◌, ℕ, Bool, true, false, cond, List, [], ◌∷◌, ◌++◌, map, length, is_some, Some, None, Ok, Err, Option, Result, ◌==◌}
 use Rattle.forms.specs.declared.fault.Fault.{Fault}
 use Rattle.forms.specs.Checks.{verdict}
+use Rattle.forms.specs.Openings.{terms_of}
+use Rattle.stage.specs.Asked.{rule_asked}
 use Rattle.stage.specs.Rules.{Meaning}
 use Rattle.book.specs.Calls.{asks_position, asks_trade, asks_standing, asks_total}
 use Rattle.book.specs.Rows.{Row}
 use Rattle.book.specs.States.{State}
-use Rattle.session.specs.declared.letter.Letter.TheVariants.{Opening, Message, Advance, Closing}
+use Rattle.session.specs.declared.letter.Letter.TheVariants.{Rule, Opening, Message, Advance, Closing}
 use Rattle.session.specs.Letters.{code_of}
 use Rattle.session.specs.Replies.{Told, stop, refused, done, taken, closed, plainly, message_told, close_told}
 use Rattle.session.specs.Steps.{stepped_for}
@@ -14,11 +16,15 @@ use Rattle.session.specs.Views.{SessionState}
 use Rattle.journal.specs.Books.{Brings}
 use Rattle.journal.specs.Exists.{Call, call_of, OwnSheet}
 use Rattle.journal.specs.Journals.{Entry, Journal}
+use Rattle.journal.specs.Reckoned.{groups}
 use Rattle.journal.specs.Theorem.{Lawful}
 
 pub record Frame : Type 0 where
   pub letter : ℕ
   pub body : List ℕ
+
+abbrev pub rule_frame : List ℕ → Frame
+rule_frame form = record { letter = code_of Rule; body = form }
 
 abbrev pub opening_frame : List ℕ → Frame
 opening_frame form = record { letter = code_of Opening; body = form }
@@ -92,13 +98,15 @@ rows_of (Entry.total group answer) = []
 abbrev pub exchange_of : Entry → Exchange
 exchange_of e = record { call = Some (call_of e); told = told_of e; rows = rows_of e }
 
--- The session holds a book, opened by this form under this rule, that the journal brought to its state; each call was handed the session's own sheet.
+-- The session holds a book, opened by this form under this rule, that the journal brought to its state. Each call was handed the session's own
+-- sheet, and the session has a row for each group.
 pub record Holds (m : Meaning) (form : List ℕ) (j : Journal) (x : SessionState) : Type 0 where
   pub book : State
   pub rule : x.rule ≡ Some m
   pub place : x.place ≡ Some (m, book)
   pub brings : Brings m form j book x.sheet
   pub own : OwnSheet m form j book x.sheet brings
+  pub rows : length x.rows ≡ groups (terms_of form)
 
 -- A frame that opens a book begins its journal, under the rule that the session has.
 abbrev pub OpeningBegins : ℕ → Type 0
@@ -125,38 +133,51 @@ QuestionsGoOn =
     × ((group day : ℕ) → Holds m form (Entry.standing group day (asks_standing (λ r. r) x.place group day) ∷ j) x)
     × ((group : ℕ) → Holds m form (Entry.total group (asks_total x.place group) ∷ j) x)
 
--- a session before its first frame; its state after frames, of which the newest stands first
+-- a session's state after frames, of which the newest stands first
+abbrev pub session_from : ℕ → SessionState → List Frame → SessionState
+session_from most x [] = x
+session_from most x (f ∷ fs) = state_after most (session_from most x fs) f
+
+-- from its first frame on
 abbrev pub new_session : SessionState
 new_session = record { rule = None; place = None; sheet = []; rows = [] }
 
-abbrev pub session_after : ℕ → SessionState → List Frame → SessionState
-session_after most x [] = x
-session_after most x (f ∷ fs) = state_after most (session_after most x fs) f
+abbrev pub session_after : ℕ → List Frame → SessionState
+session_after most frames = session_from most new_session frames
 
 -- what passed at those frames that did not stop
-abbrev pub exchanges : ℕ → SessionState → List Frame → List Exchange
-exchanges most x [] = []
-exchanges most x (f ∷ fs) =
-    let y = session_after most x fs in
-    cond (is_stop (told_at most y f)) (exchanges most x fs) (exchange_at most y f ∷ exchanges most x fs)
+abbrev pub exchanges_from : ℕ → SessionState → List Frame → List Exchange
+exchanges_from most x [] = []
+exchanges_from most x (f ∷ fs) =
+    let y = session_from most x fs in
+    cond (is_stop (told_at most y f)) (exchanges_from most x fs) (exchange_at most y f ∷ exchanges_from most x fs)
 
--- One of a session's frames opened the book, under a lawful rule, and what passed at the later ones is a journal of it.
+-- one of a session's frames was accepted as the form of this rule
+pub record Ruled (most : ℕ) (frames : List Frame) (m : Meaning) : Type 0 where
+  pub later : List Frame
+  pub form : List ℕ
+  pub earlier : List Frame
+  pub in_order : frames ≡ later ++ rule_frame form ∷ earlier
+  pub accepted : told_at most (session_after most earlier) (rule_frame form) ≡ done
+  pub asked : rule_asked form ≡ Ok m
+
+-- One of them opened the book, under the lawful rule that was accepted before, and what passed at the later ones is a journal of this book.
 pub record Recorded (most : ℕ) (frames : List Frame) : Type 0 where
   pub later : List Frame
   pub form : List ℕ
   pub earlier : List Frame
   pub in_order : frames ≡ later ++ opening_frame form ∷ earlier
-  pub opened : told_at most (session_after most new_session earlier) (opening_frame form) ≡ done
+  pub opened : told_at most (session_after most earlier) (opening_frame form) ≡ done
   pub rule : Meaning
-  pub ruled : (session_after most new_session earlier).rule ≡ Some rule
+  pub ruled : Ruled most earlier rule
   pub lawful : Lawful rule
   pub journal : Journal
-  pub holds : Holds rule form journal (session_after most new_session frames)
-  pub as_passed : map exchange_of journal ≡ exchanges most (session_after most new_session (opening_frame form ∷ earlier)) later
+  pub holds : Holds rule form journal (session_after most frames)
+  pub as_passed : map exchange_of journal ≡ exchanges_from most (session_after most (opening_frame form ∷ earlier)) later
 
 -- so of every session from its first frame on, once a book is open
 abbrev pub RunsAreJournals : ℕ → Type 0
-RunsAreJournals most = (frames : List Frame) → is_some (session_after most new_session frames).place ≡ true → Recorded most frames
+RunsAreJournals most = (frames : List Frame) → is_some (session_after most frames).place ≡ true → Recorded most frames
 
 -- 8. of every program, whatever the most groups that it serves
 abbrev pub SessionsAreJournals : Type 0
