@@ -22,7 +22,7 @@ use Rattle.session.specs.Steps.{groups_served_for, rule_made, if_opened_for, by_
 use Rattle.session.specs.Stops.{too_many_for}
 use Rattle.session.specs.Views.{SessionState}
 use Rattle.journal.specs.Journals.{Journal}
-use Rattle.journal.specs.Sessions.{Frame, rule_frame, opening_frame, told_at, state_after, is_stop, exchange_at, exchange_of, Holds, session_from, session_after, exchanges_from, Ruled, RunsAreJournals, SessionsAreJournals}
+use Rattle.journal.specs.Sessions.{Frame, rule_frame, opening_frame, told_at, state_after, is_stop, exchange_at, exchange_of, Holds, session_from, session_after, exchanges_from, Accepted, RunsAreJournals, SessionsAreJournals}
 use Rattle.journal.specs.Theorem.{Lawful}
 use Rattle.journal.proofs.Stepping.{number, Outcome, either, by_letter, stops_change_nothing, frames_go_on, questions_go_on, opening_begins}
 
@@ -159,6 +159,9 @@ module _ (most : ℕ) (place : Place Meaning) (w : List ℕ) (rows : List Row) (
   stays false false false true false long body = either Stays (not (is_some place) || long) (stop, ruled) (phase_moved ruled) refl refl
   stays false false false false false long body = refl
 
+abbrev RuledBy : ℕ → List Frame → Meaning → Type 0
+RuledBy most frames m = (a : Accepted most rule_frame frames) × (rule_asked a.form ≡ Ok m)
+
 -- the same of a frame
 module _ (most : ℕ) (f : Frame) where
   opened_now : (y : SessionState) → y.place ≡ None → is_some (state_after most y f).place ≡ true → (f ≡ opening_frame f.body) × (told_at most y f ≡ done)
@@ -188,45 +191,41 @@ module _ (most : ℕ) (f : Frame) where
       (stays most y.place y.sheet y.rows m (f.letter == code_of letters.Rule) (f.letter == code_of letters.Opening) (f.letter == code_of letters.Message)
       (f.letter == code_of letters.Advance) (f.letter == code_of letters.Closing) (nat_lt 0 (length f.body)) f.body)
 
+  -- one frame more
+  abbrev still_accepted : (such : List ℕ → Frame) (fs : List Frame) → Accepted most such fs → Accepted most such (f ∷ fs)
+  still_accepted such fs a = record { later = f ∷ a.later; form = a.form; earlier = a.earlier; in_order = ap (λ gs. f ∷ gs) a.in_order; told = a.told }
+
+  abbrev just_accepted : (such : List ℕ → Frame) (fs : List Frame) → f ≡ such f.body → told_at most (session_after most fs) f ≡ done → Accepted most such (f ∷ fs)
+  just_accepted such fs e h = record { later = []; form = f.body; earlier = fs; in_order = ap (λ g. g ∷ fs) e; told = ap (told_at most (session_after most fs)) (sym e) ∙ h }
+
   -- the rule that a session has was asked for by one of its frames
   ruled_by : (fs : List Frame) (m : Meaning) (r : Option Meaning) → (session_after most fs).rule ≡ r
-      → ((k : Meaning) → (session_after most fs).rule ≡ Some k → Ruled most fs k)
-      → (session_after most (f ∷ fs)).rule ≡ Some m → Ruled most (f ∷ fs) m
+      → ((k : Meaning) → (session_after most fs).rule ≡ Some k → RuledBy most fs k)
+      → (session_after most (f ∷ fs)).rule ≡ Some m → RuledBy most (f ∷ fs) m
   ruled_by fs m (Some k) there earlier h =
       let e = same_rule k m (sym (ruled_still (session_after most fs) k there) ∙ h) in
       let q = earlier m (there ∙ ap Some e) in
-      record { later = f ∷ q.later; form = q.form; earlier = q.earlier; in_order = ap (λ gs. f ∷ gs) q.in_order; accepted = q.accepted; asked = q.asked }
+      (still_accepted rule_frame fs q.0, q.1)
   ruled_by fs m None there earlier h =
-      let y = session_after most fs in
-      let o = ruled_now y m there h in
-      record { later = []; form = f.body; earlier = fs; in_order = ap (λ g. g ∷ fs) o.0; accepted = ap (told_at most y) (sym o.0) ∙ o.1; asked = o.2 }
+      let o = ruled_now (session_after most fs) m there h in
+      (just_accepted rule_frame fs o.0 o.1, o.2)
 
-rule_found : (most : ℕ) (frames : List Frame) (m : Meaning) → (session_after most frames).rule ≡ Some m → Ruled most frames m
+  -- and a book that is open was opened by one
+  opened_by_one : (fs : List Frame) (place : Place Meaning) → (session_after most fs).place ≡ place
+      → (is_some (session_after most fs).place ≡ true → Accepted most opening_frame fs)
+      → is_some (session_after most (f ∷ fs)).place ≡ true → Accepted most opening_frame (f ∷ fs)
+  opened_by_one fs (Some p) there earlier h = still_accepted opening_frame fs (earlier (ap is_some there))
+  opened_by_one fs None there earlier h =
+      let o = opened_now (session_after most fs) there h in
+      just_accepted opening_frame fs o.0 o.1
+
+rule_found : (most : ℕ) (frames : List Frame) (m : Meaning) → (session_after most frames).rule ≡ Some m → RuledBy most frames m
 rule_found most [] m h = nothing_ruled m h
 rule_found most (f ∷ fs) m h = ruled_by most f fs m (session_after most fs).rule refl (rule_found most fs) h
 
--- and an open book was opened by one
-pub record OpenedIn (most : ℕ) (frames : List Frame) : Type 0 where
-  pub later : List Frame
-  pub form : List ℕ
-  pub earlier : List Frame
-  pub in_order : frames ≡ later ++ opening_frame form ∷ earlier
-  pub opened : told_at most (session_after most earlier) (opening_frame form) ≡ done
-
-found_by : (most : ℕ) (f : Frame) (fs : List Frame) (place : Place Meaning) → (session_after most fs).place ≡ place
-    → (is_some (session_after most fs).place ≡ true → OpenedIn most fs)
-    → is_some (session_after most (f ∷ fs)).place ≡ true → OpenedIn most (f ∷ fs)
-found_by most f fs (Some p) there earlier h =
-    let o = earlier (ap is_some there) in
-    record { later = f ∷ o.later; form = o.form; earlier = o.earlier; in_order = ap (λ gs. f ∷ gs) o.in_order; opened = o.opened }
-found_by most f fs None there earlier h =
-    let y = session_after most fs in
-    let o = opened_now most f y there h in
-    record { later = []; form = f.body; earlier = fs; in_order = ap (λ g. g ∷ fs) o.0; opened = ap (told_at most y) (sym o.0) ∙ o.1 }
-
-found : (most : ℕ) (frames : List Frame) → is_some (session_after most frames).place ≡ true → OpenedIn most frames
-found most [] h = nothing_is h
-found most (f ∷ fs) h = found_by most f fs (session_after most fs).place refl (found most fs) h
+opening_found : (most : ℕ) (frames : List Frame) → is_some (session_after most frames).place ≡ true → Accepted most opening_frame frames
+opening_found most [] h = nothing_is h
+opening_found most (f ∷ fs) h = opened_by_one most f fs (session_after most fs).place refl (opening_found most fs) h
 
 one_after_another : (most : ℕ) (x : SessionState) (later earlier : List Frame) → session_from most x (later ++ earlier) ≡ session_from most (session_from most x earlier) later
 one_after_another most x [] earlier = refl
@@ -234,21 +233,18 @@ one_after_another most x (f ∷ later) earlier = ap (λ y. state_after most y f)
 
 runs_are_journals : (most : ℕ) → RunsAreJournals most
 runs_are_journals most frames h =
-    let o = found most frames h in
+    let o = opening_found most frames h in
     let before = session_after most o.earlier in
-    let begun = opening_begins most before o.form o.opened in
+    let begun = opening_begins most before o.form o.told in
     let ruled = rule_found most o.earlier begun.0 begun.1 in
     let followed = follow most begun.0 o.form (state_after most before (opening_frame o.form)) begun.2 o.later in
     let same = ap (session_after most) o.in_order ∙ one_after_another most (session_after most []) o.later (opening_frame o.form ∷ o.earlier) in
     record {
-      later = o.later;
-      form = o.form;
-      earlier = o.earlier;
-      in_order = o.in_order;
-      opened = o.opened;
+      opening = o;
+      ruling = ruled.0;
       rule = begun.0;
-      ruled = ruled;
-      lawful = lawful_asked (rule_of ruled.form) begun.0 ruled.asked;
+      asked = ruled.1;
+      lawful = lawful_asked (rule_of ruled.0.form) begun.0 ruled.1;
       journal = followed.0;
       holds = subst (Holds begun.0 o.form followed.0) (sym same) followed.1;
       as_passed = followed.2;

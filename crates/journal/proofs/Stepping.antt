@@ -25,8 +25,8 @@ use Rattle.session.specs.Replies.{Told, stop, refused, done, taken, closed, plai
 use Rattle.session.specs.Steps.{groups_served_for, rule_made, if_opened_for, by_rule, message_sent, phase_moved, day_ended}
 use Rattle.session.specs.Stops.{stops_for, too_many_for}
 use Rattle.session.specs.Views.{SessionState}
-use Rattle.journal.specs.Books.{Brings}
-use Rattle.journal.specs.Exists.{Call, OwnSheet}
+use Rattle.journal.specs.Books.{Stepped, Brings, Unchanged}
+use Rattle.journal.specs.Exists.{Call, Handed, OwnSheet}
 use Rattle.journal.specs.Journals.{Entry, Journal}
 use Rattle.journal.specs.Sessions.{Frame, told_at, state_after, rows_given, exchange_at, rows_in, exchange_of, Holds, OpeningBegins, FramesGoOn, StopsChangeNothing, QuestionsGoOn}
 use Rattle.journal.specs.Reckoned.{groups}
@@ -218,41 +218,27 @@ frames_go_on most m form j y f h =
     (frame_goes_on m form j h.book y.sheet y.rows h.brings h.own h.rows most f)
 
 -- the questions
+asked_too : (m : Meaning) (form : List ℕ) (j : Journal) (x : SessionState) (h : Holds m form j x) (e : Entry) → Stepped m e h.book x.sheet h.book x.sheet → Handed e x.sheet → Holds m form (e ∷ j) x
+asked_too m form j x h e step handed = record {
+  book = h.book;
+  rule = h.rule;
+  place = h.place;
+  brings = (h.book, x.sheet, h.brings, step);
+  own = (handed, h.own);
+  rows = h.rows;
+}
+
 pub questions_go_on : QuestionsGoOn
 questions_go_on m form j x h =
-    let at = h.place in (
-      λ group quarter. record {
-        book = h.book;
-        rule = h.rule;
-        place = h.place;
-        brings = (h.book, x.sheet, h.brings, (own_itself (asks_position x.place x.sheet group quarter) x.sheet, ap (λ p. asks_position p x.sheet group quarter) at, record { book = refl; sheet = refl }));
-        own = (refl, h.own);
-        rows = h.rows;
-      },
-      λ from to quarter. record {
-        book = h.book;
-        rule = h.rule;
-        place = h.place;
-        brings = (h.book, x.sheet, h.brings, (own_itself (asks_trade x.place x.sheet from to quarter) x.sheet, ap (λ p. asks_trade p x.sheet from to quarter) at, record { book = refl; sheet = refl }));
-        own = (refl, h.own);
-        rows = h.rows;
-      },
-      λ group day. record {
-        book = h.book;
-        rule = h.rule;
-        place = h.place;
-        brings = (h.book, x.sheet, h.brings, (ap (λ p. asks_standing (λ r. r) p group day) at, record { book = refl; sheet = refl }));
-        own = (tt, h.own);
-        rows = h.rows;
-      },
-      λ group. record {
-        book = h.book;
-        rule = h.rule;
-        place = h.place;
-        brings = (h.book, x.sheet, h.brings, (ap (λ p. asks_total p group) at, record { book = refl; sheet = refl }));
-        own = (tt, h.own);
-        rows = h.rows;
-      },
+    let same : Unchanged h.book x.sheet h.book x.sheet = record { book = refl; sheet = refl } in (
+      λ group quarter.
+          let answer = asks_position x.place x.sheet group quarter in
+          asked_too m form j x h (Entry.position x.sheet group quarter answer) (own_itself answer x.sheet, ap (λ p. asks_position p x.sheet group quarter) h.place, same) refl,
+      λ from to quarter.
+          let answer = asks_trade x.place x.sheet from to quarter in
+          asked_too m form j x h (Entry.trade x.sheet from to quarter answer) (own_itself answer x.sheet, ap (λ p. asks_trade p x.sheet from to quarter) h.place, same) refl,
+      λ group day. asked_too m form j x h (Entry.standing group day (asks_standing (λ r. r) x.place group day)) (ap (λ p. asks_standing (λ r. r) p group day) h.place, same) tt,
+      λ group. asked_too m form j x h (Entry.total group (asks_total x.place group)) (ap (λ p. asks_total p group) h.place, same) tt,
     )
 
 -- an opening form that is accepted

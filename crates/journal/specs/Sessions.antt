@@ -152,28 +152,24 @@ exchanges_from most x (f ∷ fs) =
     let y = session_from most x fs in
     cond (is_stop (told_at most y f)) (exchanges_from most x fs) (exchange_at most y f ∷ exchanges_from most x fs)
 
--- one of a session's frames was accepted as the form of this rule
-pub record Ruled (most : ℕ) (frames : List Frame) (m : Meaning) : Type 0 where
+-- one of a session's frames, such a one, was accepted
+pub record Accepted (most : ℕ) (such : List ℕ → Frame) (frames : List Frame) : Type 0 where
   pub later : List Frame
   pub form : List ℕ
   pub earlier : List Frame
-  pub in_order : frames ≡ later ++ rule_frame form ∷ earlier
-  pub accepted : told_at most (session_after most earlier) (rule_frame form) ≡ done
-  pub asked : rule_asked form ≡ Ok m
+  pub in_order : frames ≡ later ++ such form ∷ earlier
+  pub told : told_at most (session_after most earlier) (such form) ≡ done
 
--- One of them opened the book, under the lawful rule that was accepted before, and what passed at the later ones is a journal of this book.
+-- One of them opened the book, under the lawful rule that one before it asked for, and what passed at the later ones is a journal of this book.
 pub record Recorded (most : ℕ) (frames : List Frame) : Type 0 where
-  pub later : List Frame
-  pub form : List ℕ
-  pub earlier : List Frame
-  pub in_order : frames ≡ later ++ opening_frame form ∷ earlier
-  pub opened : told_at most (session_after most earlier) (opening_frame form) ≡ done
+  pub opening : Accepted most opening_frame frames
+  pub ruling : Accepted most rule_frame opening.earlier
   pub rule : Meaning
-  pub ruled : Ruled most earlier rule
+  pub asked : rule_asked ruling.form ≡ Ok rule
   pub lawful : Lawful rule
   pub journal : Journal
-  pub holds : Holds rule form journal (session_after most frames)
-  pub as_passed : map exchange_of journal ≡ exchanges_from most (session_after most (opening_frame form ∷ earlier)) later
+  pub holds : Holds rule opening.form journal (session_after most frames)
+  pub as_passed : map exchange_of journal ≡ exchanges_from most (session_after most (opening_frame opening.form ∷ opening.earlier)) opening.later
 
 -- so of every session from its first frame on, once a book is open
 abbrev pub RunsAreJournals : ℕ → Type 0
