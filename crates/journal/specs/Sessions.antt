@@ -152,7 +152,7 @@ exchanges_from most x (f ∷ fs) =
     let y = session_from most x fs in
     cond (is_stop (told_at most y f)) (exchanges_from most x fs) (exchange_at most y f ∷ exchanges_from most x fs)
 
--- one of a session's frames, such a one, was accepted
+-- one of a session's frames, with such a form, was accepted
 pub record Accepted (most : ℕ) (such : List ℕ → Frame) (frames : List Frame) : Type 0 where
   pub later : List Frame
   pub form : List ℕ
