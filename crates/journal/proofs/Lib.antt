@@ -9,6 +9,8 @@ pub mod Quiet
 pub mod Replay
 pub mod Running
 pub mod Sending
+pub mod Sessions
+pub mod Stepping
 pub mod Whole
 pub mod Opening
 pub mod Outcomes

@@ -41,7 +41,7 @@ module _ (m : Meaning) (place : Option (Meaning × State)) (form given : List �
   pub sheet_new : replicate (length given) 0 ≡ w
   sheet_new = sym (ap (λ v. if_passed v (replicate (length given) 0) given) checked) ∙ ap (λ o. o.2) h
 
-  sized : sizes_check form ≡ Ok tt
+  pub sized : sizes_check form ≡ Ok tt
   sized = passed_left (sizes_check form) _ checked
 
   pub lawful : LawfulTerms (terms_of form)

@@ -17,7 +17,7 @@ use Rattle.journal.specs.Journals.{Entry, Journal}
 use Rattle.stage.specs.Rules.{Meaning}
 use Rattle.journal.proofs.Opening.{state_new, sheet_new, fitted}
 
-own_itself : {A : Type 0} (answer : Result A Fault) (w : List ℕ) → Own answer w w
+pub own_itself : {A : Type 0} (answer : Result A Fault) (w : List ℕ) → Own answer w w
 own_itself (Ok x) w = refl
 own_itself (Err e) w = tt
 

@@ -3,4 +3,5 @@ pub mod Exhibit
 pub mod Exists
 pub mod Journals
 pub mod Reckoned
+pub mod Sessions
 pub mod Theorem

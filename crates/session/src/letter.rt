@@ -3,7 +3,7 @@ ghost use Rattle.session.specs.Letters.{Decodes};
 
 /// What a frame is.
 #[derive(Clone, Copy)]
-pub(crate) enum Letter {
+pub enum Letter {
     Rule,
     Opening,
     Message,
@@ -13,7 +13,7 @@ pub(crate) enum Letter {
 
 /// A letter that no frame has.
 #[derive(Clone, Copy)]
-pub(crate) struct UnknownLetter;
+pub struct UnknownLetter;
 
 impl TryFrom<u8> for Letter {
     type Error = UnknownLetter;

@@ -2,7 +2,7 @@
 #![tactic(auto)]
 
 pub mod frame;
-mod letter;
+pub mod letter;
 pub mod questions;
 pub mod reply;
 pub mod session;
