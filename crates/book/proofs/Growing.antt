@@ -5,7 +5,7 @@ use Rattle.forms.specs.Slots.{cons}
 use Rattle.message.specs.Places.{stated}
 use Rattle.settlement.specs.declared.phase.Phase.TheVariants.{After}
 use Rattle.settlement.specs.Days.{day_net}
-use Rattle.settlement.specs.Positions.{stated_with, stated_check, stated_open, open_position, excess, as_far_out}
+use Rattle.settlement.specs.Positions.{stated_with, stated_check, stated_open, open_position, excess, no_farther}
 use Rattle.settlement.specs.Sheets.{on_sheet}
 use Rattle.book.specs.Messages.{by_message, grows_at}
 use Rattle.book.specs.States.{State, size, figures, day_quarters, statements}
@@ -26,9 +26,9 @@ module _ (s : State) (sheet form : List ℕ) (own t : ℕ) where
       ∙ (λ j. stated_check (by_message own (p j) form) (r j) t own)
 
   pub grows_known : (f : GroupFigures) (next last : ℤ) (r : Bool)
-      → r ≡ (ltb 0 (excess f After (open_position f next)) && not (as_far_out (open_position f next) (open_position f last)))
+      → r ≡ (ltb 0 (excess f After (open_position f next)) && not (no_farther (open_position f next) (open_position f last)))
       → f ≡ figures s own → next ≡ stated_check (by_message own (day_quarters s) form) (size s) t own → last ≡ stated_check (statements s sheet) (size s) t own
       → r ≡ grows_at s sheet own form t
   unfolding grows_at stated_open
   grows_known f next last r e p m n =
-      e ∙ (λ j. ltb 0 (excess (p j) After (open_position (p j) (m j))) && not (as_far_out (open_position (p j) (m j)) (open_position (p j) (n j))))
+      e ∙ (λ j. ltb 0 (excess (p j) After (open_position (p j) (m j))) && not (no_farther (open_position (p j) (m j)) (open_position (p j) (n j))))

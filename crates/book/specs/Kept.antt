@@ -10,7 +10,7 @@ cut_offs closed Ahead = closed
 cut_offs closed Near = closed
 cut_offs closed After = closed + 1
 
--- no day's penalty, and no day's balance amount, is above these
+-- no day's penalty, and no day's balance amount, is above these, each 2 ^ 52
 abbrev pub most_penalty : ℕ
 most_penalty = 4503599627370496
 

@@ -12,7 +12,7 @@ use Rattle.message.specs.Heads.{heads_check}
 use Rattle.message.specs.Values.{values_check}
 use Rattle.message.specs.Places.{first_of, sent_in, stated}
 use Rattle.settlement.specs.declared.phase.Phase.TheVariants.{After}
-use Rattle.settlement.specs.Positions.{stated_open, is_beyond, as_far_out}
+use Rattle.settlement.specs.Positions.{stated_open, is_beyond, no_farther}
 use Rattle.settlement.specs.Sums.{sumℕ}
 use Rattle.settlement.specs.Sheets.{Statements, slots, slot_at, words_per_slot}
 use Rattle.book.specs.declared.answers.Submitted.{Submitted}
@@ -33,10 +33,11 @@ pub record Read (s : State) (own q : ℕ) (form : List ℕ) : Type 0 where
   pub quarters : q ≡ day_quarters s
   pub formed : Formed q form
 
--- 11: a series accepted today is left out, or a metered group lacks a forecast
+-- the series of slot k was accepted today and is not in the message
 abbrev pub left_out : State → ℕ → List ℕ → ℕ → Bool
 left_out s own form k = slice_index_or s.sent (own * slots (size s) + k) false && not (sent_in form (slot_at (size s) k))
 
+-- 11: a series accepted today is left out, or a metered group lacks a forecast
 abbrev pub incomplete : State → ℕ → List ℕ → Bool
 incomplete s own form =
     is_some (first_of (left_out s own form) (slots (size s)))
@@ -46,7 +47,7 @@ incomplete s own form =
 unfoldable pub grows_at : State → List ℕ → ℕ → List ℕ → ℕ → Bool
 grows_at s sheet own form t =
     is_beyond (figures s own) After (stated_open (by_message own (day_quarters s) form) (figures s own) (size s) t own)
-    && not (as_far_out (stated_open (by_message own (day_quarters s) form) (figures s own) (size s) t own) (stated_open (statements s sheet) (figures s own) (size s) t own))
+    && not (no_farther (stated_open (by_message own (day_quarters s) form) (figures s own) (size s) t own) (stated_open (statements s sheet) (figures s own) (size s) t own))
 
 -- the first of n quarter hours at which it does is named
 abbrev pub grown_at : State → List ℕ → ℕ → List ℕ → ℕ → Verdict

@@ -9,7 +9,7 @@ ghost use Rattle.book.specs.Messages.{left_out, incomplete};
 ghost use Rattle.book.specs.States.{state_of, size};
 
 use crate::sending::Sending;
-use crate::slots::{places, slot_at};
+use crate::slots::places;
 use forms::fault::Fault;
 use forms::slot::Slot;
 use settlement::sheet::slots_per_group;
@@ -24,26 +24,14 @@ impl Sending<'_, '_, '_> {
             && self.message.find(Slot::Pump).is_some()
     }
 
-    /// Whether the slot of this number was sent today and is missing from the message.
-    fn leaves_out_at(&self, number: usize) -> bool
-        requires { number < slots (size (state_of self.now.day.ledger.now)) }
-        ensures { result ≡ left_out (state_of self.now.day.ledger.now) self.now.own self.now.message.bytes.now number }
-    {
-        let ledger = self.day.ledger;
-        ledger.sent[ledger.place(self.own, number)]
-            && self
-                .message
-                .find(slot_at(ledger.groups(), number))
-                .is_none()
-    }
-
-    /// The same, by the place in the message of the slot's series: where it has one, no search is made.
-    fn leaves_out_by(&self, number: usize, place: Option<u8>) -> bool
+    /// Whether the slot of this number was sent today, and the message has no series at a place for it.
+    fn leaves_out_at(&self, number: usize, place: Option<u8>) -> bool
         requires there { number < slots (size (state_of self.now.day.ledger.now)) }
         requires place { place ≡ place_of self.now.message.bytes.now (slot_at (size (state_of self.now.day.ledger.now)) number) }
         ensures { result ≡ left_out (state_of self.now.day.ledger.now) self.now.own self.now.message.bytes.now number }
     {
-        place.is_none() && self.leaves_out_at(number)
+        let ledger = self.day.ledger;
+        place.is_none() && ledger.sent[ledger.place(self.own, number)]
     }
 
     /// Whether a series that the group has had accepted today is left out.
@@ -52,7 +40,7 @@ impl Sending<'_, '_, '_> {
     {
         let groups = self.day.ledger.groups();
         let places = places(groups, &self.message);
-        (0..slots_per_group(groups)).any(|number| self.leaves_out_by(number, places[number]))
+        (0..slots_per_group(groups)).any(|number| self.leaves_out_at(number, places[number]))
     }
 
     /// Refuses a message that leaves out a series accepted today, or a forecast of a metered group.

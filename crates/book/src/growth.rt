@@ -4,8 +4,8 @@ ghost use Rattle.forms.specs.Figures.{figures_of};
 ghost use Rattle.forms.specs.Slots.{slot_of, cons};
 ghost use Rattle.message.specs.Places.{stated};
 ghost use Rattle.settlement.specs.declared.phase.Phase.TheVariants.{After};
-ghost use Rattle.settlement.specs.Days.{day_net, HasRoom, Grows, Adds};
-ghost use Rattle.settlement.specs.Positions.{stated_with, open_position, is_beyond, as_far_out};
+ghost use Rattle.settlement.specs.Days.{day_net, HasRoom, GrowsAtMostAWord, Adds};
+ghost use Rattle.settlement.specs.Positions.{stated_with, open_position, is_beyond, no_farther};
 ghost use Rattle.settlement.specs.Sheets.{words_per_slot};
 ghost use Rattle.book.specs.Messages.{by_message, each_growth, growth_check};
 ghost use Rattle.book.specs.States.{state_of, size, day_quarters};
@@ -16,7 +16,7 @@ use forms::group::Group;
 use forms::slot::Slot;
 use settlement::day::DayTrades;
 use settlement::phase::Phase;
-use settlement::positions::{as_far_out, excess, open_position};
+use settlement::positions::{no_farther, excess, open_position};
 use settlement::sheet::WORDS_PER_SLOT;
 use settlement::words::add_words;
 
@@ -31,15 +31,15 @@ fn check_less(trades: &DayTrades, consumption: &[u64], t: usize) -> i64
 
 /// Whether an open position is beyond the limit after the cut-off and farther out than the last.
 fn farther_out(figures: &Group, next: i64, last: i64) -> bool
-    ensures { result ≡ (is_beyond (figures_of figures.now) After next && not (as_far_out next last)) }
+    ensures { result ≡ (is_beyond (figures_of figures.now) After next && not (no_farther next last)) }
 {
-    excess(figures, Phase::After, next) > 0 && !as_far_out(next, last)
+    excess(figures, Phase::After, next) > 0 && !no_farther(next, last)
 }
 
 /// The same of the open positions of two check values.
 fn moves_out(figures: &Group, next: i64, last: i64) -> bool
     requires { (unsigned_abs next ≤ 2 ^ 37) × (unsigned_abs last ≤ 2 ^ 37) }
-    ensures { result ≡ (is_beyond (figures_of figures.now) After (open_position (figures_of figures.now) next) && not (as_far_out (open_position (figures_of figures.now) next) (open_position (figures_of figures.now) last))) }
+    ensures { result ≡ (is_beyond (figures_of figures.now) After (open_position (figures_of figures.now) next) && not (no_farther (open_position (figures_of figures.now) next) (open_position (figures_of figures.now) last))) }
 {
     let next = open_position(figures, next);
     let last = open_position(figures, last);
@@ -52,7 +52,7 @@ impl Sending<'_, '_, '_> {
     fn add_series(&self, slot: Slot, sums: &mut [u64])
         requires { HasRoom sums.old }
         ensures value { Adds (day_quarters (state_of self.now.day.ledger.now)) (stated self.now.message.quarters self.now.message.bytes.now (slot_of slot)) sums.old sums.new }
-        ensures bound { Grows sums.old sums.new }
+        ensures bound { GrowsAtMostAWord sums.old sums.new }
     {
         if let Some(i) = self.message.find(slot) {
             let words = self.message.words(i);

@@ -1,35 +1,15 @@
-//! A group's slots by their number, and a message's series by those numbers.
+//! A message's series by the numbers of their slots among a group's slots.
 ghost use Rattle.std.specs.Prelude.{◌≡◌, ℕ, ◌<◌, ◌≤◌, None, IfSome, slice_index_or};
 ghost use Rattle.forms.specs.Bounds.{most_groups};
-ghost use Rattle.forms.specs.Slots.{slot_of};
 ghost use Rattle.message.specs.Places.{place_of};
 ghost use Rattle.settlement.specs.Sheets.{slots, slot_at};
 ghost use Rattle.book.specs.Numbers.{is_named, is_number};
 
 use forms::kind::{CONS, IN, OUT, PROD, PUMP};
-use forms::slot::Slot;
 use message::{Head, Message};
 
 /// The slots of one of 16 groups.
 pub(crate) const SLOTS: usize = 35;
-
-/// The slot of a number among a group's slots.
-pub(crate) fn slot_at(groups: usize, number: usize) -> Slot
-    requires { groups ≤ most_groups }
-    ensures { slot_of result ≡ slot_at groups number }
-{
-    if number < groups {
-        Slot::OutTo(number as u8)
-    } else if number < 2 * groups {
-        Slot::InFrom((number - groups) as u8)
-    } else if number == 2 * groups {
-        Slot::Cons
-    } else if number == 2 * groups + 1 {
-        Slot::Prod
-    } else {
-        Slot::Pump
-    }
-}
 
 /// The number of the slot that a head names, among a group's slots, if it names one.
 fn number_under(groups: usize, head: Head) -> Option<usize>

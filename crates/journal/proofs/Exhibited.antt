@@ -22,7 +22,7 @@ use Rattle.book.specs.Sheets.{all_powers}
 use Rattle.book.specs.States.{State, GroupState, nothing_kept}
 use Rattle.book.proofs.Submitting.{submit_accepted}
 use Rattle.journal.specs.Books.{Unchanged, Stepped, Brings, JournalOf}
-use Rattle.journal.specs.Exhibit.{FartherCostsMore, FartherOut, opening, message, unsent, laid, idle, short}
+use Rattle.journal.specs.Exhibit.{FartherCostsMore, FartherAtCutOffs, opening, message, unsent, laid, idle, short}
 use Rattle.journal.specs.Journals.{Journal, submit, advance, standing, total, how_many, before, last_message, says, cut_offs}
 use Rattle.journal.specs.Reckoned.{open_at, excess_on, marks_to, penalty_on, penalties, stage}
 use Rattle.journal.specs.Theorem.{Lawful}
@@ -142,7 +142,7 @@ nothing_open : (t : ℕ) → nat_abs (open_at terms idle 0 1 t) ≡ 0
 unfolding by_journal
 nothing_open t = refl
 
-farther : FartherOut terms idle short 0
+farther : FartherAtCutOffs terms idle short 0
 farther day t l h b =
     let one : 1 ≡ day = omega (arith, one_cut_off.0) in
     let none = ap (λ d. nat_abs (open_at terms idle 0 d t)) (sym one) ∙ nothing_open t in

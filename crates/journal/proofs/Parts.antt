@@ -8,7 +8,7 @@ use Rattle.stage.specs.Marked.{Under, on_day}
 use Rattle.stage.proofs.MarkLists.{on_day_next, under_from_days}
 use Rattle.settlement.specs.Amounts.{is_marked}
 use Rattle.forms.specs.Lawful.{NeverFalls}
-use Rattle.settlement.specs.Positions.{as_far_out}
+use Rattle.settlement.specs.Positions.{no_farther}
 use Rattle.settlement.specs.Sums.{sumℕ}
 use Rattle.settlement.proofs.Laws.{farther_day_no_less, penalty_no_less}
 use Rattle.settlement.proofs.Sums.{sumℕ-le}
@@ -41,7 +41,7 @@ marked_too E F l h = lt-ltb 0 F (omega (arith, ltb-true 0 E h))
 
 -- standing farther out never costs less
 module _ (terms : Terms) (m n : Meaning) (j k : Journal) (lawful : Lawful m) (one : OneRule m n) (rises : NeverFalls terms.tariff) (a last : ℕ) (year : last ≤ 366)
-    (far : (day t : ℕ) → 1 ≤ day → day ≤ last → t < quarters day → as_far_out (open_at terms j a day t) (open_at terms k a day t) ≡ true) where
+    (far : (day t : ℕ) → 1 ≤ day → day ≤ last → t < quarters day → no_farther (open_at terms j a day t) (open_at terms k a day t) ≡ true) where
   excess_no_less : (day : ℕ) → 1 ≤ day → day ≤ last → excess_on terms j a day ≤ excess_on terms k a day
   unfolding excess_on
   excess_no_less day l h =

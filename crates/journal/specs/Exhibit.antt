@@ -1,18 +1,11 @@
 -- Two journals in which standing farther out does cost more.
-use Rattle.std.specs.Prelude.{◌≡◌, ℕ, zero, suc, ◌<◌, ◌≤◌, true, false, List, [], ◌∷◌, ◌++◌, replicate, pos, Some, Ok}
-use Rattle.forms.specs.Calendar.{quarters}
-use Rattle.forms.specs.Figures.{Terms}
+use Rattle.std.specs.Prelude.{◌≡◌, ℕ, zero, suc, ◌<◌, true, false, List, [], ◌∷◌, ◌++◌, replicate, pos, Some, Ok}
 use Rattle.forms.specs.Openings.{terms_of}
 use Rattle.stage.specs.Rules.{rolling, Meaning}
-use Rattle.settlement.specs.Positions.{as_far_out}
 use Rattle.journal.specs.Books.{JournalOf}
 use Rattle.journal.specs.Journals.{Journal, submit, advance, standing, total, cut_offs}
-use Rattle.journal.specs.Reckoned.{groups, open_at, stage, penalties}
-use Rattle.journal.specs.Theorem.{Lawful}
-
--- at each cut-off, in each quarter hour, group a's confirmed open position is at least as far from zero in the second journal
-abbrev pub FartherOut : Terms → Journal → Journal → ℕ → Type 0
-FartherOut terms j k a = (day t : ℕ) → 1 ≤ day → day ≤ cut_offs j → t < quarters day → as_far_out (open_at terms j a day t) (open_at terms k a day t) ≡ true
+use Rattle.journal.specs.Reckoned.{groups, stage, penalties}
+use Rattle.journal.specs.Theorem.{Lawful, FartherAtCutOffs}
 
 -- Two books under one rule and one form have passed equally many cut-offs, and group a stands at least as far out in the second:
 -- there its stage on the last of these days and its penalties are higher.
@@ -22,7 +15,7 @@ pub record CostsMore (m : Meaning) (form : List ℕ) (j k : Journal) (a : ℕ) :
   pub second : JournalOf m form k
   pub there : a < groups (terms_of form)
   pub passed : cut_offs j ≡ cut_offs k
-  pub farther : FartherOut (terms_of form) j k a
+  pub farther : FartherAtCutOffs (terms_of form) j k a
   pub stage_higher : stage m (terms_of form) j a (cut_offs j) < stage m (terms_of form) k a (cut_offs j)
   pub penalties_higher : penalties m (terms_of form) j a < penalties m (terms_of form) k a
 

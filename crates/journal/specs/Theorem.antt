@@ -9,7 +9,7 @@ use Rattle.forms.specs.Openings.{terms_of}
 use Rattle.forms.specs.Slots.{out_to, in_from}
 use Rattle.message.specs.Form.{said}
 use Rattle.stage.specs.Marked.{Under}
-use Rattle.settlement.specs.Positions.{confirmed, stated_open, confirmed_open, net_purchases, as_far_out}
+use Rattle.settlement.specs.Positions.{confirmed, stated_open, confirmed_open, net_purchases, no_farther}
 use Rattle.settlement.specs.Sums.{sumℤ}
 use Rattle.journal.specs.Books.{JournalOf}
 use Rattle.journal.specs.Journals.{Entry, submit, advance, close, position, trade, standing, total, Journal, cut_offs, today, says}
@@ -69,13 +69,17 @@ pub record Lawful (m : Meaning) : Type 0 where
   pub bounded : (xs : List Bool) → length xs ≤ year_days → m xs ≤ year_days
   pub monotone : (xs ys : List Bool) → length xs ≤ year_days → Under xs ys → m xs ≤ m ys
 
+-- at each cut-off, in each quarter hour, group a's confirmed open position is at least as far from zero in the second journal
+abbrev pub FartherAtCutOffs : Terms → Journal → Journal → ℕ → Type 0
+FartherAtCutOffs terms j k a = (day t : ℕ) → 1 ≤ day → day ≤ cut_offs j → t < quarters day → no_farther (open_at terms j a day t) (open_at terms k a day t) ≡ true
+
 -- 4. Under a lawful rule, standing farther out never costs less, in stages and penalties; balance amounts go by prices and are not meant.
 -- Said of the reckoned ones, and of those that standing and total answer or would answer next.
 abbrev pub FartherNoCheaper : List ℕ → Type 0
 FartherNoCheaper form =
     (m n : Meaning) (j k : Journal) → Lawful m → OneRule m n → JournalOf m form j → JournalOf n form k
     → cut_offs j ≡ cut_offs k → (a : ℕ) → a < groups (terms_of form)
-    → ((day t : ℕ) → 1 ≤ day → day ≤ cut_offs j → t < quarters day → as_far_out (open_at (terms_of form) j a day t) (open_at (terms_of form) k a day t) ≡ true)
+    → FartherAtCutOffs (terms_of form) j k a
     → ((day : ℕ) → 1 ≤ day → day ≤ cut_offs j
     → (stage m (terms_of form) j a day ≤ stage n (terms_of form) k a day)
     × ((x y : Bool × ℕ) → JournalOf m form (standing (a + 1) day (Ok x) ∷ j) → JournalOf n form (standing (a + 1) day (Ok y) ∷ k) → x.1 ≤ y.1))

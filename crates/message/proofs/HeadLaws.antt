@@ -7,11 +7,11 @@ use Rattle.forms.specs.Slots.{Slot, out_to, in_from, cons, prod, pump, kind_of, 
 use Rattle.forms.specs.declared.fault.Fault.TheVariants.{UnlawfulHead, RepeatedHead}
 use Rattle.forms.proofs.Firsts.{each_passed, passed_left, passed_right, unrefused, allowed}
 use Rattle.message.specs.Form.{series_count, kind_at, counter_at, value_at}
-use Rattle.message.specs.Told.{slot_under, slot_at}
+use Rattle.message.specs.Told.{slot_under}
 use Rattle.message.specs.Places.{first_of, head_is, place_under, place_of, sent_in, stated}
 use Rattle.message.specs.Heads.{names_other, lawful_head, head_check, repeats, once_check, heads_check}
 use Rattle.message.proofs.Search.{first_found}
-use Rattle.message.proofs.Stated.{value_found}
+use Rattle.message.proofs.Stated.{slot_at, value_found}
 
 none_from : (o : Option ℕ) → is_some o ≡ false → o ≡ None
 none_from None h = refl

@@ -4,8 +4,9 @@ use Rattle.std.proofs.lemmas.Bool.{cases_Bool}
 use Rattle.std.proofs.lemmas.Bool.Decides.{nat_tests}
 use Rattle.forms.specs.Bytes.{be32}
 use Rattle.message.specs.Form.{Formed, series_count, kind_at, counter_at, value_at, values_at}
-use Rattle.message.specs.Told.{Told, trade, forecast, is_trade, is_forecast, place_told, bytes_of, Names, slot_at, slot_under, told_slot, series_of}
+use Rattle.message.specs.Told.{Told, trade, forecast, is_trade, is_forecast, place_told, bytes_of, Names, slot_under, told_slot, series_of}
 use Rattle.message.specs.Heads.{heads_check}
+use Rattle.message.proofs.Stated.{slot_at}
 use Rattle.message.proofs.HeadLaws.{head_lawful}
 use Rattle.message.proofs.Spans.{value_of_bytes, length_values}
 

@@ -3,9 +3,13 @@ use Rattle.std.proofs.Common.{◌≡◌, ℕ, ◌<◌, eqb, List, Some, None, re
 use Rattle.std.proofs.lemmas.Bool.{and_parts, eqb-true}
 use Rattle.forms.specs.Slots.{Slot, out_to, in_from, cons, prod, pump, kind_of, counter_of}
 use Rattle.message.specs.Form.{series_count, kind_at, counter_at, value_at}
-use Rattle.message.specs.Told.{slot_under, slot_at}
+use Rattle.message.specs.Told.{slot_under}
 use Rattle.message.specs.Places.{head_is, place_under, place_of, value_under}
 use Rattle.message.proofs.Search.{first_at}
+
+-- what series i of a message is about
+abbrev pub slot_at : List ℕ → ℕ → Slot
+slot_at s i = slot_under (kind_at s i) (counter_at s i)
 
 pub value_found : (q : ℕ) (s : List ℕ) (kind counter i t : ℕ) → place_under s kind counter ≡ Some i → value_under q s kind counter t ≡ value_at q s i t
 unfolding value_under

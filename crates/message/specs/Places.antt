@@ -3,11 +3,12 @@ use Rattle.std.specs.Prelude.{◌≡◌, ℕ, zero, suc, ◌<◌, Bool, true, fa
 use Rattle.forms.specs.Slots.{Slot, kind_of, counter_of}
 use Rattle.message.specs.Form.{series_count, kind_at, counter_at, value_at}
 
--- the first of 0, 1, .., n - 1 that meets the test
+-- what was found before n, or n itself where it meets the test
 abbrev pub or_at : Option ℕ → Bool → ℕ → Option ℕ
 or_at (Some i) b n = Some i
 or_at None b n = cond b (Some n) None
 
+-- the first of 0, 1, .., n - 1 that meets the test
 unfoldable pub first_of : (ℕ → Bool) → ℕ → Option ℕ
 first_of test zero = None
 first_of test (suc n) = or_at (first_of test n) (test n) n

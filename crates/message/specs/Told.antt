@@ -37,16 +37,12 @@ abbrev pub Names : Told → Type 0
 Names (trade place kind counter bytes) = 1 ≤ counter
 Names (forecast place kind bytes) = Unit {0}
 
--- what a head of this kind and counter is about
+-- what a head of this kind, one of the five, and counter is about
 abbrev pub slot_under : ℕ → ℕ → Slot
 slot_under kind counter =
     cond (kind == number_of kinds.Out) (out_to (counter - 1))
     (cond (kind == number_of kinds.In) (in_from (counter - 1))
     (cond (kind == number_of kinds.Cons) cons (cond (kind == number_of kinds.Prod) prod pump)))
-
--- what series i of a message is about
-abbrev pub slot_at : List ℕ → ℕ → Slot
-slot_at s i = slot_under (kind_at s i) (counter_at s i)
 
 -- what a series as read is about
 abbrev pub told_slot : Told → Slot

@@ -16,7 +16,7 @@ impl<'a> Message<'a> {
         ensures { result ≡ head_check groups own self.now.bytes.now i }
     {
         let Head { kind, counter } = self.head(i);
-        // On the number, with ranges and guards: the form that is wanted here.
+        // On the number, with ranges and guards: a form that is kept, see docs/DECISIONS.md, Code forms.
         match kind {
             OUT | IN if counter >= 1 && counter <= groups && counter - 1 != own => Ok(()),
             CONS..=PUMP if counter == 0 => Ok(()),

@@ -1,7 +1,7 @@
 -- How the next frame of an input is taken.
 use Rattle.std.specs.Prelude.{◌≡◌, ℕ, ◌+◌, ◌-◌, ◌<◌, ◌≤◌, ◌⊎◌, List, length, take, drop, Some, IfSome, slice_index}
 use Rattle.std.specs.Io.KnownBytes.{Keeps, Consumes, IsAtEnd}
-use Rattle.session.specs.Frames.{body_of, frame_head}
+use Rattle.session.specs.Frames.{announced, frame_head}
 use Rattle.session.specs.Replies.{Told, stop}
 use Rattle.session.specs.Steps.{stepped_for}
 use Rattle.session.specs.Views.{SessionState}
@@ -9,7 +9,7 @@ use Rattle.serve.specs.Held.{Held, to_come}
 
 -- a head that says how long the body is, and the body
 abbrev pub IsFrame : List ℕ → Type 0
-IsFrame frame = (frame_head ≤ length frame) × (body_of (take frame_head frame) ≡ Some (length frame - frame_head))
+IsFrame frame = (frame_head ≤ length frame) × (announced (take frame_head frame) ≡ Some (length frame - frame_head))
 
 -- the bytes of one frame are taken, and a session that serves at most so many groups takes its step by them
 abbrev pub Steps : ℕ → SessionState → Told → SessionState → Held → Held → Type 0
@@ -19,7 +19,7 @@ Steps most before reply after held left =
 
 -- behind this head the input ends before the body does; where the head announces too much, nothing is said
 abbrev pub BodyIsCut : List ℕ → Held → Type 0
-BodyIsCut head left = IfSome (body_of head) (λ size. (length left.bytes < frame_head + size) × IsAtEnd left.rest)
+BodyIsCut head left = IfSome (announced head) (λ size. (length left.bytes < frame_head + size) × IsAtEnd left.rest)
 
 -- no whole frame stands at the front, and none will: the input ends in the head or in the body, or the head announces too much
 pub record IsCut (left : Held) : Type 0 where

@@ -3,7 +3,7 @@
 #![tactic(auto)]
 
 use service::Service;
-use session::session::{MOST_GROUPS, Session};
+use session::session::{ACCOUNT_GROUPS, Session};
 use std::io;
 
 pub mod account;
@@ -13,7 +13,7 @@ mod service;
 
 /// A whole session on the standard streams, for the eight groups that the program `account` serves.
 pub fn run(rt: &HostRuntime) -> io::Result<()> {
-    run_for(rt, MOST_GROUPS)?;
+    run_for(rt, ACCOUNT_GROUPS)?;
     Ok(())
 }
 

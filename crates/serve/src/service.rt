@@ -7,7 +7,7 @@ ghost use Rattle.serve.specs.Held.{to_come};
 ghost use Rattle.serve.specs.Printed.{row_lines};
 ghost use Rattle.serve.specs.Taken.{TakesFrame, BodyIsCut};
 ghost use Rattle.book.specs.Rows.{row_of};
-ghost use Rattle.session.specs.Frames.{body_of, frame_head};
+ghost use Rattle.session.specs.Frames.{announced, frame_head};
 ghost use Rattle.session.specs.Replies.{told_by, line, closed};
 ghost use Rattle.session.specs.Views.{view_of};
 
@@ -68,7 +68,7 @@ impl<R: Read + Drop, W: Write + Drop> Service<R, W> {
     fn take_frame(&mut self) -> io::Result<Option<Reply>>
         ensures step { IfOk result (λ o. IfSome o (λ reply. TakesFrame self.old.most (view_of self.old.session) (told_by reply) (view_of self.new.session) self.old.input self.new.input)) }
         ensures none { IfOk result (λ o. IfNone o (self.new.session ≡ self.old.session)) }
-        ensures end { IfOk result (λ o. IfNone o (IsAtEnd (to_come self.new.input))) }
+        ensures end { IfOk result (λ o. IfNone o (IsAtEnd (to_come self.old.input))) }
         ensures printed { Keeps (writer_contents W.contents self.old.output) (writer_contents W.contents self.new.output) }
         ensures most { self.new.most ≡ self.old.most }
     {
@@ -90,7 +90,7 @@ impl<R: Read + Drop, W: Write + Drop> Service<R, W> {
     /// Waits for the body of a frame, which follows its head, and answers the length of both, or nothing
     /// where the head announces too much or the body is cut short.
     fn read_body(&mut self, head: [u8; FRAME_HEAD]) -> io::Result<Option<usize>>
-        ensures frame { IfOk result (λ o. IfSome o (λ n. (body_of head ≡ Some (n - frame_head)) × (frame_head ≤ n) × (n ≤ length self.new.input.bytes))) }
+        ensures frame { IfOk result (λ o. IfSome o (λ n. (announced head ≡ Some (n - frame_head)) × (frame_head ≤ n) × (n ≤ length self.new.input.bytes))) }
         ensures none { IfOk result (λ o. IfNone o (BodyIsCut head self.new.input)) }
         ensures kept { take (length self.old.input.bytes) self.new.input.bytes ≡ self.old.input.bytes }
         ensures none_lost { Keeps (to_come self.old.input) (to_come self.new.input) }
@@ -112,6 +112,7 @@ impl<R: Read + Drop, W: Write + Drop> Service<R, W> {
         requires { wanted ≤ capacity }
         ensures enough { IfOk result (λ enough. enough ≡ nat_le wanted (length self.new.input.bytes)) }
         ensures short { IfOk result (λ enough. enough ≡ false → IsAtEnd self.new.input.rest) }
+        ensures first { self.new.input ≢ self.old.input → writer_buffer self.new.output ≡ [] }
         ensures answered { IfOk result (λ _. length self.old.input.bytes < wanted → writer_buffer self.new.output ≡ []) }
         ensures kept { take (length self.old.input.bytes) self.new.input.bytes ≡ self.old.input.bytes }
         ensures none_lost { Keeps (to_come self.old.input) (to_come self.new.input) }

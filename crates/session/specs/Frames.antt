@@ -10,5 +10,6 @@ frame_head = 5
 abbrev pub longest_body : ℕ
 longest_body = 12746
 
-abbrev pub body_of : List ℕ → Option ℕ
-body_of head = cond (nat_lt longest_body (be32 head 1)) None (Some (be32 head 1))
+-- the length that a head announces for its body, none where that is above the bound
+abbrev pub announced : List ℕ → Option ℕ
+announced head = cond (nat_lt longest_body (be32 head 1)) None (Some (be32 head 1))

@@ -12,7 +12,7 @@ use Rattle.book.specs.Rows.{no_row}
 use Rattle.session.specs.Replies.{Told, stop, refused, done, plainly, message_told, close_told}
 use Rattle.session.specs.declared.letter.Letter.TheVariants.{Rule, Opening, Message, Advance}
 use Rattle.session.specs.Letters.{code_of}
-use Rattle.session.specs.Stops.{account_groups, stops_for}
+use Rattle.session.specs.Stops.{stops_for}
 use Rattle.session.specs.Views.{SessionState}
 use Rattle.stage.specs.Rules.{Meaning}
 
@@ -67,7 +67,3 @@ taken_for most s letter body =
 -- what is told, and the session afterwards; where it stops, nothing changes
 abbrev pub stepped_for : ℕ → SessionState → ℕ → List ℕ → Told × SessionState
 stepped_for most s letter body = cond (stops_for most (is_some s.rule) (is_some s.place) letter body) (stop, s) (taken_for most s letter body)
-
--- the same for the program account
-abbrev pub stepped : SessionState → ℕ → List ℕ → Told × SessionState
-stepped s letter body = stepped_for account_groups s letter body

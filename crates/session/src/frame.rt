@@ -1,6 +1,6 @@
 //! A frame: a letter, a 32-bit length with the high byte first, and a body.
 ghost use Rattle.std.specs.Prelude.{◌≡◌, length};
-ghost use Rattle.session.specs.Frames.{body_of, frame_head};
+ghost use Rattle.session.specs.Frames.{announced, frame_head};
 
 use forms::bytes::be32_at;
 
@@ -12,7 +12,7 @@ pub const LONGEST_BODY: u32 = 12_746;
 
 /// The length of the body that a frame's head announces, or nothing where that is too long.
 pub fn body_length(head: [u8; FRAME_HEAD]) -> Option<usize>
-    ensures value { result ≡ body_of head }
+    ensures value { result ≡ announced head }
     ensures whole { length head ≡ frame_head }
 {
     let announced = be32_at(&head, 1);

@@ -4,7 +4,7 @@ use book::result_row::ResultRow;
 use stage::any_rule::AnyRule;
 
 /// The most groups that the program `account` serves.
-pub const MOST_GROUPS: u8 = 8;
+pub const ACCOUNT_GROUPS: u8 = 8;
 
 /// The rule, the book, and what the session lends it: the sheet and the result rows.
 #[derive(Drop)]

@@ -1,5 +1,5 @@
 //! One frame after another.
-ghost use Rattle.std.specs.Prelude.{◌≡◌, ◌≤◌, [], map, replicate, is_some, IfOk, None, MatchResult};
+ghost use Rattle.std.specs.Prelude.{◌≡◌, ◌≤◌, [], map, replicate, is_some, IfOk, None, MatchResult, false};
 ghost use Rattle.forms.specs.Bounds.{most_groups};
 ghost use Rattle.stage.specs.Asked.{rule_asked};
 ghost use Rattle.settlement.specs.Sheets.{sheet_size};
@@ -7,13 +7,13 @@ ghost use Rattle.book.specs.Rows.{row_of, no_row};
 ghost use Rattle.session.specs.Letters.{code_of};
 ghost use Rattle.session.specs.declared.letter.Letter.TheVariants.{Opening};
 ghost use Rattle.session.specs.Replies.{told_by, told_in};
-ghost use Rattle.session.specs.Steps.{groups_served_for, rule_made, by_rule, message_sent, phase_moved, day_ended, stepped_for, stepped};
+ghost use Rattle.session.specs.Steps.{groups_served_for, rule_made, by_rule, message_sent, phase_moved, day_ended, stepped_for};
 ghost use Rattle.session.specs.Stops.{stops_for, too_many_for};
 ghost use Rattle.session.specs.Views.{view_of};
 
 use crate::letter::Letter;
 use crate::reply::Reply;
-use crate::session::{MOST_GROUPS, Session};
+use crate::session::Session;
 use book::book::Book;
 use book::result_row::ResultRow;
 use forms::bounds;
@@ -142,16 +142,9 @@ impl Session {
         Ok(Reply::Closed)
     }
 
-    /// Takes one frame, by its letter as it came, and answers it, for the eight groups that the program
-    /// `account` serves. Want of memory, met only by an opening form, changes nothing.
-    pub fn step(&mut self, heap: Global, letter: u8, body: &[u8]) -> Result<Reply, AllocError>
-        ensures { MatchResult result (λ reply. (told_by reply, view_of self.new) ≡ stepped (view_of self.old) letter body.now) (λ _. (letter ≡ code_of Opening) × (view_of self.new ≡ view_of self.old)) }
-    {
-        self.step_for(heap, MOST_GROUPS, letter, body)
-    }
-
     // Heap, bound and frame come from three places: a struct for them would be no plainer.
-    /// The same for at most so many groups.
+    /// Takes one frame, by its letter as it came, and answers it, for at most so many groups. Want of memory,
+    /// met only by an opening form that does not end the session, changes nothing.
     pub fn step_for(
         &mut self,
         heap: Global,
@@ -159,7 +152,7 @@ impl Session {
         letter: u8,
         body: &[u8],
     ) -> Result<Reply, AllocError>
-        ensures { MatchResult result (λ reply. (told_by reply, view_of self.new) ≡ stepped_for most (view_of self.old) letter body.now) (λ _. (letter ≡ code_of Opening) × (view_of self.new ≡ view_of self.old)) }
+        ensures { MatchResult result (λ reply. (told_by reply, view_of self.new) ≡ stepped_for most (view_of self.old) letter body.now) (λ _. (letter ≡ code_of Opening) × (stops_for most (is_some (view_of self.old).rule) (is_some (view_of self.old).place) letter body.now ≡ false) × (view_of self.new ≡ view_of self.old)) }
     {
         let Ok(letter) = Letter::try_from(letter) else {
             return Ok(Reply::Stop);

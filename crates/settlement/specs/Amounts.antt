@@ -5,7 +5,7 @@ use Rattle.settlement.specs.Sheets.{Statements}
 use Rattle.settlement.specs.Positions.{net_purchases}
 use Rattle.settlement.specs.Sums.{sumℤ}
 
--- no imbalance is farther from zero
+-- no imbalance is farther from zero: 16 words of 32 bits and a feed-in, rounded up
 abbrev pub most_imbalance : ℕ
 most_imbalance = 68730000000
 

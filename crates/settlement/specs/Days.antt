@@ -11,8 +11,8 @@ abbrev pub HasRoom : List ℕ → Type 0
 HasRoom sums = (length sums ≡ words_per_slot) × ((t : ℕ) → slice_index sums t ≤ 2 ^ 40)
 
 -- the sums after it are as many, and none has grown by more than a word
-abbrev pub Grows : List ℕ → List ℕ → Type 0
-Grows sums after = (length after ≡ length sums) × ((t : ℕ) → slice_index after t ≤ slice_index sums t + 2 ^ 32)
+abbrev pub GrowsAtMostAWord : List ℕ → List ℕ → Type 0
+GrowsAtMostAWord sums after = (length after ≡ length sums) × ((t : ℕ) → slice_index after t ≤ slice_index sums t + 2 ^ 32)
 
 -- in the first q quarter hours these words are added
 abbrev pub Adds : ℕ → (ℕ → ℕ) → List ℕ → List ℕ → Type 0

@@ -6,24 +6,24 @@ use Rattle.forms.specs.Lawful.{NeverFalls}
 use Rattle.settlement.specs.declared.phase.Phase.{Phase}
 use Rattle.settlement.specs.Sheets.{Statements}
 use Rattle.settlement.specs.Sums.{sumℤ}
-use Rattle.settlement.specs.Positions.{confirmed, net_purchases, confirmed_open, excess, as_far_out, day_excess}
+use Rattle.settlement.specs.Positions.{confirmed, net_purchases, confirmed_open, excess, no_farther, day_excess}
 use Rattle.settlement.specs.Amounts.{row_for, penalty, to_cents}
 
 -- the confirmed net purchases of all groups add to zero
 abbrev pub Balanced : Type 0
 Balanced = (S : Statements) (g t : ℕ) → sumℤ (net_purchases S g t) g ≡ pos 0
 
--- a confirmed trade is above what neither side has stated
+-- no confirmed trade is above what either side has stated
 abbrev pub BelowBoth : Type 0
 BelowBoth = (S : Statements) (t a b : ℕ) → (confirmed S t a b ≤ S a (out_to b) t) × (confirmed S t a b ≤ S b (in_from a) t)
 
 -- an open position that is at least as far out has no lower excess
 abbrev pub FartherCostsNoLess : Type 0
-FartherCostsNoLess = (f : GroupFigures) (phase : Phase) (o p : ℤ) → as_far_out o p ≡ true → excess f phase o ≤ excess f phase p
+FartherCostsNoLess = (f : GroupFigures) (phase : Phase) (o p : ℤ) → no_farther o p ≡ true → excess f phase o ≤ excess f phase p
 
 -- two days of a group, the second at least as far out in each of the q quarter hours
 abbrev pub FartherOut : GroupFigures → ℕ → ℕ → ℕ → Statements → Statements → Type 0
-FartherOut f g a q S S' = (t : ℕ) → t < q → as_far_out (confirmed_open S f g t a) (confirmed_open S' f g t a) ≡ true
+FartherOut f g a q S S' = (t : ℕ) → t < q → no_farther (confirmed_open S f g t a) (confirmed_open S' f g t a) ≡ true
 
 -- a day that is at least as far out has no lower sum of excesses
 abbrev pub FartherDayNoLess : Type 0

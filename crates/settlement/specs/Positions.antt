@@ -56,9 +56,9 @@ excess f p o = unsigned_abs o - limit_for f p o
 abbrev pub is_beyond : GroupFigures → Phase → ℤ → Bool
 is_beyond f p o = nat_lt 0 (excess f p o)
 
--- the second open position is at least as far out as the first
-abbrev pub as_far_out : ℤ → ℤ → Bool
-as_far_out o p = nat_le (unsigned_abs o) (unsigned_abs p)
+-- the first open position is no farther out than the second: the second is at least as far from zero
+abbrev pub no_farther : ℤ → ℤ → Bool
+no_farther o p = nat_le (unsigned_abs o) (unsigned_abs p)
 
 -- E: a day's sum of the excesses of the confirmed open position over the limit of the phase after
 unfoldable pub day_excess : Statements → GroupFigures → ℕ → ℕ → ℕ → ℕ

@@ -23,7 +23,7 @@ slot_number g cons = 2 * g
 slot_number g prod = 2 * g + 1
 slot_number g pump = 2 * g + 2
 
--- the slot of a number among a group's slots
+-- the slot of a number, below 2g + 3, among a group's slots
 abbrev pub slot_at : ℕ → ℕ → Slot
 slot_at g n =
     cond (nat_lt n g) (out_to n)

@@ -2,7 +2,7 @@
 ghost use Rattle.std.specs.Prelude.{◌≡◌, ℕ, ◌+◌, ◌*◌, ◌^◌, ◌<◌, ◌≤◌, length, pos, ◌-ℤ◌, slice_index, unsigned_abs};
 ghost use Rattle.forms.specs.Bounds.{most_groups};
 ghost use Rattle.forms.specs.Slots.{slot_of, cons};
-ghost use Rattle.settlement.specs.Days.{day_net, HasRoom, Grows, Adds};
+ghost use Rattle.settlement.specs.Days.{day_net, HasRoom, GrowsAtMostAWord, Adds};
 ghost use Rattle.settlement.specs.Sums.{with_others};
 ghost use Rattle.settlement.specs.Positions.{confirmed, net_purchases, stated_with};
 ghost use Rattle.settlement.specs.Sheets.{words_per_slot, Within};
@@ -44,7 +44,7 @@ impl DayTrades {
     ) -> DayTrades
         requires few { groups ≤ most_groups }
         requires called { (b : ℕ) (x y : _) → b < groups → HasRoom x.now → HasRoom y.now → F.pre add b x y }
-        requires low { (b : ℕ) (x y u v : _) → b < groups → F.post add b x y tt u v → Grows x.now u.now × Grows y.now v.now }
+        requires low { (b : ℕ) (x y u v : _) → b < groups → F.post add b x y tt u v → GrowsAtMostAWord x.now u.now × GrowsAtMostAWord y.now v.now }
         ensures { (q : ℕ) (i o : ℕ → ℕ → ℕ) → ((b : ℕ) (x y u v : _) → b < groups → F.post add b x y tt u v → Adds q (i b) x.now u.now × Adds q (o b) y.now v.now)
             → (t : ℕ) → t < q → day_net result.taken result.given t ≡ with_others (λ b. pos (i b t) -ℤ pos (o b t)) own groups }
     {
@@ -65,7 +65,7 @@ impl WholeSheet<'_, '_> {
         requires within { (group < self.now.groups) × (Within self.now.groups (slot_of slot)) }
         requires room { HasRoom sums.old }
         ensures value { Adds words_per_slot (sent_on self.now group (slot_of slot)) sums.old sums.new }
-        ensures bound { Grows sums.old sums.new }
+        ensures bound { GrowsAtMostAWord sums.old sums.new }
     {
         let place = slot_place(self.groups, group, slot);
         if self.sent[place] {
@@ -90,7 +90,7 @@ impl WholeSheet<'_, '_> {
         requires within { (a < self.now.groups) × (b < self.now.groups) }
         requires room { HasRoom sums.old }
         ensures value { Adds words_per_slot (λ t. confirmed (sent_on self.now) t a b) sums.old sums.new }
-        ensures bound { Grows sums.old sums.new }
+        ensures bound { GrowsAtMostAWord sums.old sums.new }
     {
         let out = slot_place(self.groups, a, Slot::OutTo(b as u8));
         let into = slot_place(self.groups, b, Slot::InFrom(a as u8));

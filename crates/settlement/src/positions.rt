@@ -6,7 +6,7 @@ ghost use Rattle.settlement.specs.declared.phase.Phase.TheVariants.{After};
 ghost use Rattle.settlement.specs.Days.{day_net};
 ghost use Rattle.settlement.specs.Sheets.{words_per_slot};
 ghost use Rattle.settlement.specs.Statements.{sent_on};
-ghost use Rattle.settlement.specs.Positions.{net_purchases, open_position, stated_open, confirmed_open, limit_for, excess, as_far_out, day_excess};
+ghost use Rattle.settlement.specs.Positions.{net_purchases, open_position, stated_open, confirmed_open, limit_for, excess, no_farther, day_excess};
 
 use crate::day::DayTrades;
 use crate::phase::Phase;
@@ -15,7 +15,8 @@ use crate::trades::TradeSums;
 use forms::group::Group;
 use forms::slot::Slot;
 
-/// How far a check value lies below the production maximum or above the pump depth.
+/// How far a check value lies below minus the production maximum (short, below zero) or above the pump depth
+/// (long); 0 between them.
 pub fn open_position(figures: &Group, value: i64) -> i64
     requires { unsigned_abs value < 2 ^ 40 }
     ensures value { result ≡ open_position (figures_of figures.now) value }
@@ -53,9 +54,9 @@ pub fn excess(figures: &Group, phase: Phase, position: i64) -> u64
     position.unsigned_abs().saturating_sub(u64::from(limit))
 }
 
-/// Whether the open position `other` is at least as far out as `position`.
-pub fn as_far_out(position: i64, other: i64) -> bool
-    ensures { result ≡ as_far_out position other }
+/// Whether `position` is no farther out than `other`, which is at least as far from zero.
+pub fn no_farther(position: i64, other: i64) -> bool
+    ensures { result ≡ no_farther position other }
 {
     position.unsigned_abs() <= other.unsigned_abs()
 }

@@ -4,7 +4,7 @@ use Rattle.std.specs.Io.KnownBytes.{Keeps, Consumes}
 use Rattle.std.proofs.KnownBytes.{Keeps-trans}
 use Rattle.std.proofs.lemmas.List.{take-take, take_all, length-take-le, get_or-take}
 use Rattle.std.proofs.lemmas.Grind.{common_steps}
-use Rattle.session.specs.Frames.{body_of, frame_head}
+use Rattle.session.specs.Frames.{announced, frame_head}
 use Rattle.session.specs.Replies.{Told, told_by}
 use Rattle.session.specs.Steps.{stepped_for}
 use Rattle.session.specs.Views.{SessionState, view_of}
@@ -17,7 +17,7 @@ use Rattle.serve.proofs.service.Service.take_frame.Goals as goal
 steps_by_front : (most : ℕ) (before after : SessionState) (reply : Told) (old first whole left : Held) (head : List ℕ) (n : ℕ)
     → Keeps (to_come old) (to_come first) → Keeps (to_come first) (to_come whole)
     → frame_head ≤ length first.bytes → take (length first.bytes) whole.bytes ≡ first.bytes
-    → head ≡ take frame_head first.bytes → body_of head ≡ Some (n - frame_head) → frame_head ≤ n → n ≤ length whole.bytes
+    → head ≡ take frame_head first.bytes → announced head ≡ Some (n - frame_head) → frame_head ≤ n → n ≤ length whole.bytes
     → left ≡ record { bytes = drop n whole.bytes; rest = whole.rest }
     → (reply, after) ≡ stepped_for most before (slice_index head 0) (drop frame_head (take n whole.bytes))
     → Steps most before reply after old left
@@ -31,7 +31,7 @@ steps_by_front most before after reply old first whole left head n kept_first ke
     ap (λ l. slice_index l 0) (sym heads) ∙ get_or-take frame_head frame 0 0 (omega arith) in
     let all = Keeps-trans (to_come old) (to_come first) (to_come whole) kept_first kept_whole in (
       frame,
-      (omega (arith, low, long), ap (λ l. body_of l) heads ∙ size ∙ ap (λ k. Some (k - frame_head)) (sym long)),
+      (omega (arith, low, long), ap (λ l. announced l) heads ∙ size ∙ ap (λ k. Some (k - frame_head)) (sym long)),
       subst (λ h. Consumes (to_come old) (to_come h) frame) (sym rest)
           (consumed_front (to_come old) whole.rest whole.bytes frame (drop n whole.bytes) all (sym (take-append-drop n whole.bytes))),
       step ∙ ap (λ k. stepped_for most before k (drop frame_head frame)) letter,
