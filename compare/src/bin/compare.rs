@@ -41,6 +41,8 @@ struct Arguments {
 fn main() -> ExitCode {
     let Some(arguments) = arguments() else {
         eprintln!("usage: compare [--bytes] ACCOUNT [INQUIRY] [COUNT [SEED]]");
+        eprintln!("ACCOUNT and INQUIRY are paths of programs; COUNT is a number of sessions, with");
+        eprintln!("--bytes of frames; SEED is the first seed");
         return ExitCode::FAILURE;
     };
     match compare(&arguments) {

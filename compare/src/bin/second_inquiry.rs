@@ -29,7 +29,10 @@ fn main() -> ExitCode {
     let mut quarters = Vec::new();
     for argument in &arguments {
         let Some(quarter) = argument.to_str().and_then(quarter_hour) else {
-            eprintln!("second_inquiry: no quarter hour: {}", argument.display());
+            eprintln!(
+                "second_inquiry: no quarter hour: {}; see second_inquiry --help",
+                argument.display()
+            );
             return ExitCode::FAILURE;
         };
         quarters.push(quarter);

@@ -19,7 +19,9 @@ fn main() -> ExitCode {
         _ => ("", ""),
     };
     let Ok(seed) = seed.parse() else {
-        eprintln!("usage: sessions [--inquiry | --bytes] SEED");
+        eprintln!("usage: sessions [--inquiry | --bytes] SEED > session.frames");
+        eprintln!("--inquiry: a session of inquiry, its arguments on the standard error");
+        eprintln!("--bytes: arbitrary bytes; with neither: a session of account");
         return ExitCode::FAILURE;
     };
     let script = match mode {
