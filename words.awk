@@ -20,7 +20,7 @@ BEGIN {
   why[16] = "a group row is unlawful"
 }
 function say(text) { printf "%-28s %s\n", $0, text }
-$1 == "STOP" { say("the session ends here: a frame was cut short, too long, out of turn, of no known letter, or opens a book for 9 to 16 groups"); next }
+$1 == "STOP" { say("the session ends here: a frame was cut short, too long, out of turn, of no known letter, an advance with a body, or opens a book for 9 to 16 groups"); next }
 $1 == "REFUSED" {
   reason = why[$3]
   if ($3 == 17) reason = $4 > 0 ? "a tariff row is unlawful" : "the rule form is unlawful"

@@ -16,7 +16,7 @@ use forms::group::Group;
 use forms::slot::Slot;
 use settlement::day::DayTrades;
 use settlement::phase::Phase;
-use settlement::positions::{no_farther, excess, open_position};
+use settlement::positions::{excess, no_farther, open_position};
 use settlement::sheet::WORDS_PER_SLOT;
 use settlement::words::add_words;
 

@@ -22,10 +22,10 @@ use Rattle.book.specs.Sheets.{all_powers}
 use Rattle.book.specs.States.{State, GroupState, nothing_kept}
 use Rattle.book.proofs.Submitting.{submit_accepted}
 use Rattle.journal.specs.Books.{Unchanged, Stepped, Brings, JournalOf}
-use Rattle.journal.specs.Exhibit.{FartherCostsMore, FartherAtCutOffs, opening, message, unsent, laid, idle, short}
+use Rattle.journal.specs.Exhibit.{FartherCostsMore, opening, message, unsent, laid, idle, short}
 use Rattle.journal.specs.Journals.{Journal, submit, advance, standing, total, how_many, before, last_message, says, cut_offs}
 use Rattle.journal.specs.Reckoned.{open_at, excess_on, marks_to, penalty_on, penalties, stage}
-use Rattle.journal.specs.Theorem.{Lawful}
+use Rattle.journal.specs.Theorem.{Lawful, FartherAtCutOffs}
 use Rattle.journal.proofs.Replay.{opens}
 
 abbrev m : Meaning
