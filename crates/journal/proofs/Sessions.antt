@@ -22,7 +22,8 @@ use Rattle.session.specs.Steps.{groups_served_for, rule_made, if_opened_for, by_
 use Rattle.session.specs.Stops.{too_many_for}
 use Rattle.session.specs.Views.{SessionState}
 use Rattle.journal.specs.Journals.{Journal}
-use Rattle.journal.specs.Sessions.{Frame, rule_frame, opening_frame, told_at, state_after, is_stop, exchange_at, exchange_of, Holds, session_from, session_after, exchanges_from, Accepted, RunsAreJournals, SessionsAreJournals}
+use Rattle.journal.specs.Sessions.{rule_frame, opening_frame, is_stop, exchange_at, exchange_of, Holds, exchanges_from, Accepted, RunsAreJournals, SessionsAreJournals}
+use Rattle.session.specs.Runs.{Frame, told_at, state_after, session_from, session_after}
 use Rattle.journal.specs.Theorem.{Lawful}
 use Rattle.journal.proofs.Stepping.{number, Outcome, either, by_letter, stops_change_nothing, frames_go_on, questions_go_on, opening_begins}
 

@@ -28,7 +28,8 @@ use Rattle.session.specs.Views.{SessionState}
 use Rattle.journal.specs.Books.{Stepped, Brings, Unchanged}
 use Rattle.journal.specs.Exists.{Call, Handed, OwnSheet}
 use Rattle.journal.specs.Journals.{Entry, Journal}
-use Rattle.journal.specs.Sessions.{Frame, told_at, state_after, rows_given, exchange_at, rows_in, exchange_of, Holds, OpeningBegins, FramesGoOn, StopsChangeNothing, QuestionsGoOn}
+use Rattle.journal.specs.Sessions.{rows_given, exchange_at, rows_in, exchange_of, Holds, OpeningBegins, FramesGoOn, StopsChangeNothing, QuestionsGoOn}
+use Rattle.session.specs.Runs.{Frame, told_at, state_after}
 use Rattle.journal.specs.Reckoned.{groups}
 use Rattle.journal.proofs.Opening.{sized, fitted}
 use Rattle.journal.proofs.Replay.{own_itself}

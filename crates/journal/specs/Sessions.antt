@@ -1,4 +1,4 @@
--- What a session does is a journal of the book that it opened: so the theorem speaks of what the program does. A program serves at most so many groups.
+-- What a session does is a journal of the book that it opened: so the theorem speaks of what a session does. A program serves at most so many groups.
 use Rattle.std.specs.Prelude.{◌≡◌, ◌≢◌, ℕ, Bool, true, false, cond, List, [], ◌∷◌, ◌++◌, map, length, is_some, Some, None, Ok, Err, Option, Result, ◌==◌}
 use Rattle.forms.specs.declared.fault.Fault.{Fault}
 use Rattle.forms.specs.Checks.{verdict}
@@ -11,7 +11,7 @@ use Rattle.book.specs.States.{State}
 use Rattle.session.specs.declared.letter.Letter.TheVariants.{Rule, Opening, Message, Advance, Closing}
 use Rattle.session.specs.Letters.{code_of}
 use Rattle.session.specs.Replies.{Told, stop, refused, done, taken, closed, plainly, message_told, close_told}
-use Rattle.session.specs.Steps.{stepped_for}
+use Rattle.session.specs.Runs.{Frame, told_at, state_after, session_from, session_after}
 use Rattle.session.specs.Views.{SessionState}
 use Rattle.journal.specs.Books.{Brings}
 use Rattle.journal.specs.Exists.{Call, call_of, OwnSheet}
@@ -19,22 +19,11 @@ use Rattle.journal.specs.Journals.{Entry, Journal}
 use Rattle.journal.specs.Reckoned.{groups}
 use Rattle.journal.specs.Theorem.{Lawful}
 
-pub record Frame : Type 0 where
-  pub letter : ℕ
-  pub body : List ℕ
-
 abbrev pub rule_frame : List ℕ → Frame
 rule_frame form = record { letter = code_of Rule; body = form }
 
 abbrev pub opening_frame : List ℕ → Frame
 opening_frame form = record { letter = code_of Opening; body = form }
-
--- what a session tells of a frame, and its state afterwards
-abbrev pub told_at : ℕ → SessionState → Frame → Told
-told_at most x f = (stepped_for most x f.letter f.body).0
-
-abbrev pub state_after : ℕ → SessionState → Frame → SessionState
-state_after most x f = (stepped_for most x f.letter f.body).1
 
 abbrev pub is_stop : Told → Bool
 is_stop stop = true
@@ -132,18 +121,6 @@ QuestionsGoOn =
     × ((from to quarter : ℕ) → Holds m form (Entry.trade x.sheet from to quarter (asks_trade x.place x.sheet from to quarter) ∷ j) x)
     × ((group day : ℕ) → Holds m form (Entry.standing group day (asks_standing (λ r. r) x.place group day) ∷ j) x)
     × ((group : ℕ) → Holds m form (Entry.total group (asks_total x.place group) ∷ j) x)
-
--- a session's state after frames, of which the newest stands first
-abbrev pub session_from : ℕ → SessionState → List Frame → SessionState
-session_from most x [] = x
-session_from most x (f ∷ fs) = state_after most (session_from most x fs) f
-
--- from its first frame on
-abbrev pub new_session : SessionState
-new_session = record { rule = None; place = None; sheet = []; rows = [] }
-
-abbrev pub session_after : ℕ → List Frame → SessionState
-session_after most frames = session_from most new_session frames
 
 -- what passed at those frames that did not stop
 abbrev pub exchanges_from : ℕ → SessionState → List Frame → List Exchange

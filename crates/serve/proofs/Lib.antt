@@ -1,2 +1,3 @@
 pub mod Reading
 mod Printing
+mod Framing

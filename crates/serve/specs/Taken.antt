@@ -3,6 +3,7 @@ use Rattle.std.specs.Prelude.{◌≡◌, ℕ, ◌+◌, ◌-◌, ◌<◌, ◌≤�
 use Rattle.std.specs.Io.KnownBytes.{Keeps, Consumes, IsAtEnd}
 use Rattle.session.specs.Frames.{announced, frame_head}
 use Rattle.session.specs.Replies.{Told, stop}
+use Rattle.session.specs.Runs.{Frame, session_from}
 use Rattle.session.specs.Steps.{stepped_for}
 use Rattle.session.specs.Views.{SessionState}
 use Rattle.serve.specs.Held.{Held, to_come}
@@ -34,3 +35,7 @@ Ends before reply after held left = (reply ≡ stop) × (after ≡ before) × Ke
 -- a frame that is cut short or too long ends the session, any other is a step
 abbrev pub TakesFrame : ℕ → SessionState → Told → SessionState → Held → Held → Type 0
 TakesFrame most before reply after held left = Ends before reply after held left ⊎ Steps most before reply after held left
+
+-- some frames, one after another, make the second session of the first
+abbrev pub FramesMake : ℕ → SessionState → SessionState → Type 0
+FramesMake most before after = (frames : List Frame) × (after ≡ session_from most before frames)

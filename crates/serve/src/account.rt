@@ -26,7 +26,9 @@ It prints one line for each frame, or for a close one line for each group:
                              a close
     REFUSED LEVEL NUMBER SERIES QUARTER
                              nothing has changed; the next frame is taken
-    STOP                     the frame was out of turn, and the session ends
+    STOP                     the frame was out of turn, cut short, too long, of no known
+                             letter, an A with a body, or for 9 to 16 groups; the
+                             session ends
 
 docs/FORMS.md has the bytes of each form, docs/REFUSALS.md the numbers.
 ";

@@ -2,6 +2,11 @@
 //! announces too long a body stops the session here; every other decision is the session's.
 #![tactic(auto)]
 
+ghost use Rattle.std.specs.Prelude.{IfOk};
+ghost use Rattle.serve.specs.Taken.{FramesMake};
+ghost use Rattle.session.specs.Runs.{new_session};
+ghost use Rattle.session.specs.Views.{view_of};
+
 use service::Service;
 use session::session::{ACCOUNT_GROUPS, Session};
 use std::io;
@@ -18,6 +23,8 @@ pub fn run(rt: &HostRuntime) -> io::Result<()> {
 }
 
 /// A whole session on the standard streams, for at most so many groups, as its last frame left it.
-pub fn run_for(rt: &HostRuntime, most: u8) -> io::Result<Session> {
+pub fn run_for(rt: &HostRuntime, most: u8) -> io::Result<Session>
+    ensures { IfOk result (λ s. FramesMake most new_session (view_of s)) }
+{
     Service::new(rt.alloc(), most, rt.stdin(), rt.stdout())?.serve()
 }

@@ -1,14 +1,15 @@
 //! A session between an input and an output.
-ghost use Rattle.std.specs.Prelude.{◌≡◌, ◌≢◌, ◌-◌, ◌++◌, ◌∷◌, [], ◌<◌, ◌≤◌, length, map, take, false, Some, None, OnOk, IfOk, IfSome, IfNone, nat_le};
+ghost use Rattle.std.specs.Prelude.{◌≡◌, ◌≢◌, ◌-◌, ◌++◌, ◌∷◌, ◌⊎◌, [], ◌<◌, ◌≤◌, length, map, take, false, Some, None, OnOk, IfOk, IfSome, IfNone, nat_le};
 ghost use Rattle.std.specs.Io.Buffered.{writer_inner, writer_buffer, writer_contents};
 ghost use Rattle.std.specs.Io.KnownBytes.{Appends, Keeps, IsAtEnd};
 ghost use Rattle.serve.specs.Capacity.{capacity};
 ghost use Rattle.serve.specs.Held.{to_come};
 ghost use Rattle.serve.specs.Printed.{row_lines};
-ghost use Rattle.serve.specs.Taken.{TakesFrame, BodyIsCut};
+ghost use Rattle.serve.specs.Taken.{TakesFrame, BodyIsCut, FramesMake};
 ghost use Rattle.book.specs.Rows.{row_of};
 ghost use Rattle.session.specs.Frames.{announced, frame_head};
 ghost use Rattle.session.specs.Replies.{told_by, line, closed};
+ghost use Rattle.session.specs.Runs.{new_session};
 ghost use Rattle.session.specs.Views.{view_of};
 
 use crate::input_buffer::InputBuffer;
@@ -36,7 +37,7 @@ impl<R: Read + Drop, W: Write + Drop> Service<R, W> {
         ensures most { IfOk result (λ s. s.most ≡ most) }
         ensures input { IfOk result (λ s. s.input ≡ record { bytes = []; rest = R.remaining input }) }
         ensures output { IfOk result (λ s. (writer_inner s.output ≡ output) × (writer_buffer s.output ≡ [])) }
-        ensures session { IfOk result (λ s. view_of s.session ≡ record { rule = None; place = None; sheet = []; rows = [] }) }
+        ensures session { IfOk result (λ s. view_of s.session ≡ new_session) }
     {
         Ok(Service {
             heap,
@@ -49,7 +50,9 @@ impl<R: Read + Drop, W: Write + Drop> Service<R, W> {
 
     /// Takes frame after frame until one ends the session, or the input ends, and answers the session
     /// as the last frame left it.
-    pub(crate) fn serve(mut self) -> io::Result<Session> {
+    pub(crate) fn serve(mut self) -> io::Result<Session>
+        ensures { IfOk result (λ s. FramesMake self.most (view_of self.session) (view_of s)) }
+    {
         // A loop that waits on input is written as a count, which no input reaches.
         for _ in 0..u64::MAX {
             let Some(reply) = self.take_frame()? else {
@@ -69,6 +72,7 @@ impl<R: Read + Drop, W: Write + Drop> Service<R, W> {
         ensures step { IfOk result (λ o. IfSome o (λ reply. TakesFrame self.old.most (view_of self.old.session) (told_by reply) (view_of self.new.session) self.old.input self.new.input)) }
         ensures none { IfOk result (λ o. IfNone o (self.new.session ≡ self.old.session)) }
         ensures end { IfOk result (λ o. IfNone o (IsAtEnd (to_come self.old.input))) }
+        ensures first { OnOk result ((self.new.input.rest ≡ self.old.input.rest) ⊎ (writer_buffer self.new.output ≡ [])) }
         ensures printed { Keeps (writer_contents W.contents self.old.output) (writer_contents W.contents self.new.output) }
         ensures most { self.new.most ≡ self.old.most }
     {
@@ -92,6 +96,8 @@ impl<R: Read + Drop, W: Write + Drop> Service<R, W> {
     fn read_body(&mut self, head: [u8; FRAME_HEAD]) -> io::Result<Option<usize>>
         ensures frame { IfOk result (λ o. IfSome o (λ n. (announced head ≡ Some (n - frame_head)) × (frame_head ≤ n) × (n ≤ length self.new.input.bytes))) }
         ensures none { IfOk result (λ o. IfNone o (BodyIsCut head self.new.input)) }
+        ensures first { (self.new.input ≡ self.old.input) ⊎ (writer_buffer self.new.output ≡ []) }
+        ensures quiet { OnOk result (writer_buffer self.old.output ≡ [] → writer_buffer self.new.output ≡ []) }
         ensures kept { take (length self.old.input.bytes) self.new.input.bytes ≡ self.old.input.bytes }
         ensures none_lost { Keeps (to_come self.old.input) (to_come self.new.input) }
         ensures printed { Keeps (writer_contents W.contents self.old.output) (writer_contents W.contents self.new.output) }
@@ -112,7 +118,8 @@ impl<R: Read + Drop, W: Write + Drop> Service<R, W> {
         requires { wanted ≤ capacity }
         ensures enough { IfOk result (λ enough. enough ≡ nat_le wanted (length self.new.input.bytes)) }
         ensures short { IfOk result (λ enough. enough ≡ false → IsAtEnd self.new.input.rest) }
-        ensures first { self.new.input ≢ self.old.input → writer_buffer self.new.output ≡ [] }
+        ensures first { (self.new.input ≡ self.old.input) ⊎ (writer_buffer self.new.output ≡ []) }
+        ensures quiet { OnOk result (writer_buffer self.old.output ≡ [] → writer_buffer self.new.output ≡ []) }
         ensures answered { IfOk result (λ _. length self.old.input.bytes < wanted → writer_buffer self.new.output ≡ []) }
         ensures kept { take (length self.old.input.bytes) self.new.input.bytes ≡ self.old.input.bytes }
         ensures none_lost { Keeps (to_come self.old.input) (to_come self.new.input) }

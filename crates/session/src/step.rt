@@ -1,5 +1,5 @@
 //! One frame after another.
-ghost use Rattle.std.specs.Prelude.{◌≡◌, ◌≤◌, [], map, replicate, is_some, IfOk, None, MatchResult, false};
+ghost use Rattle.std.specs.Prelude.{◌≡◌, ◌≤◌, map, replicate, is_some, IfOk, None, MatchResult, false};
 ghost use Rattle.forms.specs.Bounds.{most_groups};
 ghost use Rattle.stage.specs.Asked.{rule_asked};
 ghost use Rattle.settlement.specs.Sheets.{sheet_size};
@@ -7,6 +7,7 @@ ghost use Rattle.book.specs.Rows.{row_of, no_row};
 ghost use Rattle.session.specs.Letters.{code_of};
 ghost use Rattle.session.specs.declared.letter.Letter.TheVariants.{Opening};
 ghost use Rattle.session.specs.Replies.{told_by, told_in};
+ghost use Rattle.session.specs.Runs.{new_session};
 ghost use Rattle.session.specs.Steps.{groups_served_for, rule_made, by_rule, message_sent, phase_moved, day_ended, stepped_for};
 ghost use Rattle.session.specs.Stops.{stops_for, too_many_for};
 ghost use Rattle.session.specs.Views.{view_of};
@@ -59,7 +60,7 @@ fn blank_rows(heap: Global, groups: usize) -> Result<Vec<ResultRow>, AllocError>
 impl Session {
     /// A session before its first frame.
     pub fn new(heap: Global) -> Session
-        ensures { view_of result ≡ record { rule = None; place = None; sheet = []; rows = [] } }
+        ensures { view_of result ≡ new_session }
     {
         Session {
             rule: None,

@@ -1,15 +1,15 @@
-use Rattle.std.proofs.Common.{◌≡◌, ℕ, ◌-◌, ◌≤◌, List, length, take, drop, Some, inr, sym, ap, subst, ◌∙◌, arith, take-append-drop, length-drop}
+use Rattle.std.proofs.Common.{◌≡◌, ℕ, ◌-◌, ◌≤◌, List, length, take, drop, Some, inl, inr, refl, sym, ap, subst, ◌∙◌, arith, take-append-drop, length-drop}
 use Rattle.std.specs.Prelude.{slice_index}
 use Rattle.std.specs.Io.KnownBytes.{Keeps, Consumes}
 use Rattle.std.proofs.KnownBytes.{Keeps-trans}
-use Rattle.std.proofs.lemmas.List.{take-take, take_all, length-take-le, get_or-take}
+use Rattle.std.proofs.lemmas.List.{take-take, take_all, length-take, length-take-le, get_or-take}
 use Rattle.std.proofs.lemmas.Grind.{common_steps}
 use Rattle.session.specs.Frames.{announced, frame_head}
-use Rattle.session.specs.Replies.{Told, told_by}
+use Rattle.session.specs.Replies.{Told, stop, told_by}
 use Rattle.session.specs.Steps.{stepped_for}
 use Rattle.session.specs.Views.{SessionState, view_of}
 use Rattle.serve.specs.Held.{Held, to_come}
-use Rattle.serve.specs.Taken.{Steps}
+use Rattle.serve.specs.Taken.{Steps, Ends, BodyIsCut}
 use Rattle.serve.proofs.Reading.{consumed_front}
 use Rattle.serve.proofs.service.Service.take_frame.Goals as goal
 
@@ -59,3 +59,34 @@ returns-clause-step g c =
     c.consume.new.self head c.in-Some.length c.in_ok-wait_for.ensures.none_lost c.in_ok-length.ensures.none_lost
     (grind (arith, common_steps)) c.in_ok-length.ensures.kept
     (c.copy_from_slice.ensures.after ∙ c.front.ensures.value) frame.0 frame.1 frame.2 c.consume.ensures step)
+
+-- the head stands at the front, and its body is cut short or too long
+ends_by_front : (before after : SessionState) (old first whole : Held) (head : List ℕ)
+    → Keeps (to_come old) (to_come first) → Keeps (to_come first) (to_come whole)
+    → frame_head ≤ length first.bytes → take (length first.bytes) whole.bytes ≡ first.bytes
+    → head ≡ take frame_head first.bytes → BodyIsCut head whole → after ≡ before
+    → Ends before stop after old whole
+ends_by_front before after old first whole head kept_first kept_whole there kept is_head cut same =
+    let front : take frame_head whole.bytes ≡ head =
+    sym (take-take frame_head (length first.bytes) whole.bytes there) ∙ ap (take frame_head) kept ∙ sym is_head in
+    let long : length first.bytes ≤ length whole.bytes = omega (arith, ap length kept, length-take (length first.bytes) whole.bytes) in (
+      refl,
+      same,
+      Keeps-trans (to_come old) (to_come first) (to_come whole) kept_first kept_whole,
+      record {
+        some = omega arith;
+        head = λ few. absurd (omega arith);
+        body = λ _. subst (λ h. BodyIsCut h whole) (sym front) cut;
+      },
+    )
+
+pub returns-in_default-clause-step : goal.returns-in_default-clause-step
+returns-in_default-clause-step g c =
+    let now = c.args.self.now in
+    let first = c.wait_for.new.self in
+    let whole = c.read_body.new.self in
+    let cut = rw c.in_default.is at c.in_ok-length.ensures.none in
+    inl (ends_by_front (view_of now.session) (view_of whole.session) now.input first.input whole.input c.copy_from_slice.new.self
+    c.in_ok-wait_for.ensures.none_lost c.in_ok-length.ensures.none_lost (grind (arith, common_steps)) c.in_ok-length.ensures.kept
+    (c.copy_from_slice.ensures.after ∙ c.front.ensures.value) cut
+    (ap (λ s. view_of s) (c.in_ok-length.ensures.session ∙ c.in_ok-wait_for.ensures.session)))
