@@ -20,7 +20,7 @@ pub fn be32_at(bytes: &[u8], at: usize) -> u32
 }
 
 /// The signed 32-bit number at `at`.
-pub fn signed32_at(bytes: &[u8], at: usize) -> i32
+pub(crate) fn signed32_at(bytes: &[u8], at: usize) -> i32
     requires { at + 4 ≤ length bytes.now }
     ensures { result ≡ signed32 bytes.now at }
 {

@@ -39,7 +39,7 @@ impl<'a> ClosingReader<'a> {
     }
 
     /// Refuses a form whose sizes are not those of the book and the day, or whose length is another.
-    pub fn check_sizes(&self) -> Result<(), Fault>
+    fn check_sizes(&self) -> Result<(), Fault>
         ensures value { result ≡ closing_sizes self.now.groups self.now.quarters self.now.bytes.now }
         ensures formed { OnOk result (ClosingFormed self.now.groups self.now.quarters self.now.bytes.now) }
     {

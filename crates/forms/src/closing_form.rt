@@ -22,7 +22,7 @@ pub struct ClosingForm<'a> {
 
 impl<'a> ClosingForm<'a> {
     /// The number of series `i` at quarter hour `t`: feed-ins of the groups, long prices, short prices.
-    pub fn value(&self, i: usize, t: usize) -> i32
+    fn value(&self, i: usize, t: usize) -> i32
         requires { (i < series_count self.now.groups) × (t < self.now.quarters) }
         ensures { result ≡ closing_value self.now.quarters self.now.bytes.now i t }
     {

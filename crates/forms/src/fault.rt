@@ -98,7 +98,7 @@ impl Fault {
 
 impl Level {
     /// The letter by which the level is told.
-    pub fn letter(self) -> &'static str
+    fn letter(self) -> &'static str
         ensures { result.now ≡ letter_of self }
     {
         match self {

@@ -20,4 +20,4 @@ mod opening_form;
 pub mod rule_form;
 pub mod slot;
 pub mod terms;
-pub mod up_to;
+mod up_to;

@@ -32,7 +32,7 @@ impl<'a> OpeningReader<'a> {
     }
 
     /// Refuses a form whose sizes, or whose length, are not such as an opening form has.
-    pub fn check_sizes(&self) -> Result<(), Fault>
+    fn check_sizes(&self) -> Result<(), Fault>
         ensures value { result ≡ sizes_check self.now.bytes.now }
         ensures formed { OnOk result (OpeningFormed self.now.bytes.now) }
     {

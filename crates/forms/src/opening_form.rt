@@ -25,7 +25,7 @@ impl<'a> OpeningForm<'a> {
     }
 
     /// How many tariff rows the form has.
-    pub fn rows(&self) -> u8
+    pub(crate) fn rows(&self) -> u8
         ensures { result ≡ rows_told self.now.bytes.now }
     {
         self.bytes[1]
@@ -33,7 +33,7 @@ impl<'a> OpeningForm<'a> {
 
     /// What the form says of group `a`.
     #[tactic(auto, unfolding(crate::specs::Openings::group_at))]
-    pub fn group(&self, a: usize) -> Group
+    pub(crate) fn group(&self, a: usize) -> Group
         requires { a < groups_told self.now.bytes.now }
         ensures { figures_of result ≡ group_at self.now.bytes.now a }
     {
@@ -52,7 +52,7 @@ impl<'a> OpeningForm<'a> {
 
     /// What the form says in tariff row `r`.
     #[tactic(auto, unfolding(crate::specs::Openings::row_at))]
-    pub fn row(&self, r: usize) -> TariffRow
+    pub(crate) fn row(&self, r: usize) -> TariffRow
         requires { r < rows_told self.now.bytes.now }
         ensures { rates_of result ≡ row_at self.now.bytes.now (groups_told self.now.bytes.now) r }
     {

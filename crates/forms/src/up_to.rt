@@ -5,7 +5,7 @@ use std::alloc::AllocError;
 
 /// The first `count` of the places hold the items. What stands behind them says nothing.
 #[derive(Copy)]
-pub struct UpTo<T, const N: usize> {
+pub(crate) struct UpTo<T, const N: usize> {
     places: [T; N],
     count: u8,
     ghost room: { count ≤ length places },
@@ -24,7 +24,7 @@ impl<T: Copy, const N: usize> Clone for UpTo<T, N> {
 
 impl<T: Copy, const N: usize> UpTo<T, N> {
     /// The items `item(0)`, `item(1)`, .., `item(count - 1)`.
-    pub fn fill<F: Fn(u8) -> T>(count: u8, blank: T, item: F) -> UpTo<T, N>
+    pub(crate) fn fill<F: Fn(u8) -> T>(count: u8, blank: T, item: F) -> UpTo<T, N>
         requires room { count ≤ N }
         requires calls { (i : ℕ) → i < count → F.pre item i }
         ensures count { result.count ≡ count }
@@ -38,14 +38,14 @@ impl<T: Copy, const N: usize> UpTo<T, N> {
     }
 
     /// How many items there are.
-    pub fn count(&self) -> u8
+    pub(crate) fn count(&self) -> u8
         ensures { result ≡ self.now.count }
     {
         self.count
     }
 
     /// The items.
-    pub fn as_slice(&self) -> &[T]
+    pub(crate) fn as_slice(&self) -> &[T]
         ensures { result.now ≡ take self.now.count self.now.places }
     {
         &self.places[..self.count as usize]

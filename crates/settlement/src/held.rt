@@ -9,7 +9,7 @@ use forms::slot::Slot;
 
 impl WholeSheet<'_, '_> {
     /// What a group has sent in a slot for the quarter hour `t`, if it has.
-    pub fn held(&self, group: usize, slot: Slot, t: usize) -> Option<u32>
+    pub(crate) fn held(&self, group: usize, slot: Slot, t: usize) -> Option<u32>
         requires { (group < self.now.groups) × ((Within self.now.groups (slot_of slot)) × (t < words_per_slot)) }
         ensures { result ≡ held self.now.sent.now self.now.words.now (slot_place self.now.groups group (slot_of slot)) t }
     {
@@ -18,7 +18,7 @@ impl WholeSheet<'_, '_> {
     }
 
     /// What a group has sent in a slot for the quarter hour `t`; a slot not sent counts as zero.
-    pub fn value(&self, group: usize, slot: Slot, t: usize) -> u32
+    pub(crate) fn value(&self, group: usize, slot: Slot, t: usize) -> u32
         requires { (group < self.now.groups) × ((Within self.now.groups (slot_of slot)) × (t < words_per_slot)) }
         ensures { result ≡ sent_on self.now group (slot_of slot) t }
     {

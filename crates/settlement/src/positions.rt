@@ -34,7 +34,7 @@ pub fn open_position(figures: &Group, value: i64) -> i64
 }
 
 /// The limit that applies to an open position in a phase.
-pub fn limit_for(figures: &Group, phase: Phase, position: i64) -> u32
+pub(crate) fn limit_for(figures: &Group, phase: Phase, position: i64) -> u32
     ensures { result ≡ limit_for (figures_of figures.now) phase position }
 {
     let _ = position;

@@ -43,7 +43,7 @@ fn slot_number(groups: usize, slot: Slot) -> usize
 }
 
 /// The place of a group's slot among all slots of the sheet.
-pub fn slot_place(groups: usize, group: usize, slot: Slot) -> usize
+pub(crate) fn slot_place(groups: usize, group: usize, slot: Slot) -> usize
     requires { (groups ≤ most_groups) × ((group < groups) × (Within groups (slot_of slot))) }
     ensures value { result ≡ slot_place groups group (slot_of slot) }
     ensures bound { result < groups * slots groups }

@@ -10,7 +10,7 @@ use forms::slot::Slot;
 
 /// A group's trades of a quarter hour, in less out: as it has stated them, and as they are confirmed.
 #[derive(Clone, Copy)]
-pub struct TradeSums {
+pub(crate) struct TradeSums {
     pub stated: i64,
     pub confirmed: i64,
 }
@@ -44,7 +44,7 @@ impl WholeSheet<'_, '_> {
     }
 
     /// The trades of group `a` with all other groups, in less out, by one pass.
-    pub fn sums(&self, a: usize, t: usize) -> TradeSums
+    pub(crate) fn sums(&self, a: usize, t: usize) -> TradeSums
         requires { (a < self.now.groups) × (t < words_per_slot) }
         ensures stated { result.stated ≡ stated_with (sent_on self.now) t a self.now.groups }
         ensures confirmed { result.confirmed ≡ confirmed_with (sent_on self.now) t a self.now.groups }

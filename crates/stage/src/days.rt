@@ -25,7 +25,7 @@ impl Marks {
     }
 
     /// How many days there are marks of.
-    pub fn days(&self) -> u16
+    pub(crate) fn days(&self) -> u16
         ensures count { result ≡ length (marks_of self.now) }
         ensures year { result ≤ year_days }
     {
