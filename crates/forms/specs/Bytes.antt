@@ -1,7 +1,6 @@
 -- Numbers out of bytes, high byte first.
 use Rattle.std.specs.Prelude.{ℕ, ◌+◌, ◌*◌, List, ℤ, slice_index}
-use Rattle.std.specs.Int.{w32}
-use Rattle.std.proofs.Common.{to_z}
+use Rattle.std.specs.Int.{w32, cast_signed}
 
 abbrev pub byte : List ℕ → ℕ → ℕ
 byte s i = slice_index s i
@@ -14,4 +13,4 @@ be32 s i = byte s i * 16777216 + byte s (i + 1) * 65536 + byte s (i + 2) * 256 +
 
 -- the same 32 bits as a signed number, in two's complement
 abbrev pub signed32 : List ℕ → ℕ → ℤ
-signed32 s i = to_z w32 (be32 s i)
+signed32 s i = cast_signed w32 (be32 s i)
