@@ -8,6 +8,10 @@ byte s i = slice_index s i
 abbrev pub be16 : List ℕ → ℕ → ℕ
 be16 s i = byte s i * 256 + byte s (i + 1)
 
+-- the bytes of a 32-bit number
+abbrev pub value_bytes : ℕ
+value_bytes = 4
+
 abbrev pub be32 : List ℕ → ℕ → ℕ
 be32 s i = byte s i * 16777216 + byte s (i + 1) * 65536 + byte s (i + 2) * 256 + byte s (i + 3)
 

@@ -4,15 +4,12 @@ use Rattle.std.specs.Prelude.{◌≡◌, ℕ, ◌+◌, ◌*◌, cond, not, ◌&&
 use Rattle.std.specs.Result.{result_and}
 use Rattle.forms.specs.declared.fault.Fault.TheVariants.{ShortForm, WrongSize, WrongLength, OutOfRange}
 use Rattle.forms.specs.Bounds.{power_bound, price_bound}
-use Rattle.forms.specs.Bytes.{byte, signed32}
+use Rattle.forms.specs.Bytes.{byte, value_bytes, signed32}
 use Rattle.forms.specs.Checks.{Verdict, refuse_if, each_of}
 
--- the bytes of the header and of a number
+-- the bytes of the header
 abbrev pub closing_header : ℕ
 closing_header = 2
-
-abbrev pub value_bytes : ℕ
-value_bytes = 4
 
 -- the series of feed-ins and the two of prices
 abbrev pub series_count : ℕ → ℕ

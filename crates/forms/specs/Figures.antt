@@ -1,5 +1,5 @@
 -- What an opening form says, as values. Powers are in kW, fees in cents, rates in cents per MWh.
-use Rattle.std.specs.Prelude.{ℕ, Bool, List}
+use Rattle.std.specs.Prelude.{ℕ, Bool, false, List, length, slice_index_or}
 use Rattle.forms.specs.declared.group.Limits.{Limits}
 use Rattle.forms.specs.declared.group.Group.{Group}
 use Rattle.forms.specs.declared.group.TariffRow.{TariffRow}
@@ -24,6 +24,18 @@ pub record RateFigures : Type 0 where
 pub record Terms : Type 0 where
   pub groups : List GroupFigures
   pub tariff : List RateFigures
+
+-- how many groups there are
+abbrev pub group_count : Terms → ℕ
+group_count terms = length terms.groups
+
+-- where there is no group
+abbrev pub no_figures : GroupFigures
+no_figures = record { metered = false; prod_max = 0; pump_depth = 0; limits = record { ahead = 0; near = 0; after = 0 } }
+
+-- what is said of group a
+abbrev pub figures_at : Terms → ℕ → GroupFigures
+figures_at terms a = slice_index_or terms.groups a no_figures
 
 -- the same figures as the code holds them
 abbrev limits_of : Limits → LimitFigures

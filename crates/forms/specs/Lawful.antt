@@ -4,7 +4,7 @@ use Rattle.std.specs.Int.{is_in_range}
 use Rattle.forms.specs.declared.group.Group.{Group}
 use Rattle.forms.specs.declared.group.TariffRow.{TariffRow}
 use Rattle.forms.specs.Bounds.{least_groups, most_groups, least_rows, most_rows, power_bound, fee_bound, rate_bound}
-use Rattle.forms.specs.Figures.{GroupFigures, RateFigures, Terms, figures_of, rates_of}
+use Rattle.forms.specs.Figures.{GroupFigures, RateFigures, Terms, group_count, figures_of, rates_of}
 
 -- the terms as the code holds them
 abbrev pub terms_from : List Group → List TariffRow → Terms
@@ -41,11 +41,11 @@ NeverFalls tariff = (i j : ℕ) (d : RateFigures) → i ≤ j → j < length tar
 
 -- what the terms of a lawful form keep: sizes and figures within their bounds, and a tariff that never falls
 pub record LawfulTerms (t : Terms) : Type 0 where
-  pub groups_least : least_groups ≤ length t.groups
-  pub groups_most : length t.groups ≤ most_groups
+  pub groups_least : least_groups ≤ group_count t
+  pub groups_most : group_count t ≤ most_groups
   pub rows_least : least_rows ≤ length t.tariff
   pub rows_most : length t.tariff ≤ most_rows
-  pub powers : (a : ℕ) (d : GroupFigures) → a < length t.groups → powers_within (slice_index_or t.groups a d) ≡ true
-  pub plants : (a : ℕ) (d : GroupFigures) → a < length t.groups → plants_metered (slice_index_or t.groups a d) ≡ true
+  pub powers : (a : ℕ) (d : GroupFigures) → a < group_count t → powers_within (slice_index_or t.groups a d) ≡ true
+  pub plants : (a : ℕ) (d : GroupFigures) → a < group_count t → plants_metered (slice_index_or t.groups a d) ≡ true
   pub rates : (r : ℕ) (d : RateFigures) → r < length t.tariff → rates_within (slice_index_or t.tariff r d) ≡ true
   pub rises : NeverFalls t.tariff

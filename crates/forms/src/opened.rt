@@ -2,7 +2,7 @@
 //! Groups and tariff rows count from 0.
 ghost use Rattle.std.specs.Prelude.{◌≡◌, ℕ, ◌<◌, ◌≤◌, map, length, get_or, Ok, slice_index_or};
 ghost use Rattle.forms.specs.Bounds.{least_groups, most_groups, fee_bound, rate_bound};
-ghost use Rattle.forms.specs.Figures.{GroupFigures, figures_of, rates_of};
+ghost use Rattle.forms.specs.Figures.{GroupFigures, group_count, figures_of, rates_of};
 ghost use Rattle.forms.specs.Openings.{rows_check, terms_of, terms_in};
 
 use crate::group::{Group, TariffRow};
@@ -28,7 +28,7 @@ impl Opening {
     #[tactic(auto, using(crate::proofs::OpeningLaws::count_in))]
     pub fn groups(&self) -> u8
         ensures value { result ≡ self.now.groups.count }
-        ensures told { result ≡ length (terms_in self.now).groups }
+        ensures told { result ≡ group_count (terms_in self.now) }
         ensures some { least_groups ≤ result }
         ensures few { result ≤ most_groups }
     {

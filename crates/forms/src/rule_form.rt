@@ -9,6 +9,12 @@ use crate::fault::Fault;
 /// The length of a rule form.
 pub const RULE_FORM: usize = 3;
 
+/// The kind of the rolling rule.
+pub const ROLLING: u8 = 1;
+
+/// The kind of the run rule.
+pub const RUN: u8 = 2;
+
 /// A lawful rule form, by its kind and its number of days.
 #[derive(Clone, Copy)]
 pub enum RuleForm {
@@ -26,10 +32,9 @@ pub fn read_rule(form: &[u8]) -> Result<RuleForm, Fault>
     if form.len() != RULE_FORM {
         return Err(Fault::WrongLength);
     }
-    // The kind of a rule form is read here alone.
     match (form[0], be16_at(form, 1)) {
-        (1, days @ 1..=DAYS) => Ok(RuleForm::Rolling(days)),
-        (2, days @ 1..=DAYS) => Ok(RuleForm::Run(days)),
+        (ROLLING, days @ 1..=DAYS) => Ok(RuleForm::Rolling(days)),
+        (RUN, days @ 1..=DAYS) => Ok(RuleForm::Run(days)),
         _ => Err(Fault::UnlawfulTariff { place: 0 }),
     }
 }

@@ -1,5 +1,5 @@
 -- Where values stand, and that they stand within the message.
-use Rattle.std.proofs.Common.{◌≡◌, ℕ, zero, suc, ◌+◌, ◌*◌, ◌<◌, ◌≤◌, List, [], length, get_or, take, drop, Ok, ap, ◌∙◌, add_assoc, add-mul, arith}
+use Rattle.std.proofs.Common.{◌≡◌, ℕ, zero, suc, ◌+◌, ◌*◌, ◌<◌, ◌≤◌, List, [], length, get_or, take, drop, Ok, ap, ◌∙◌, add_assoc, add-mul, refl, arith}
 use Rattle.std.specs.Simd.{first_chunks}
 use Rattle.std.proofs.lemmas.Nat.{mul-le}
 use Rattle.std.proofs.lemmas.List.{length-take-le, length-drop, drop-drop, get_or-take, get_or-drop}
@@ -11,7 +11,7 @@ use Rattle.message.specs.Form.{Formed, header_of, said, series_count, values_sta
 -- a value by the place of its first byte
 pub value_from_start : (q : ℕ) (s : List ℕ) (i t : ℕ) → be32 s (values_start q s i + 4 * t) ≡ value_at q s i t
 unfolding value_at
-value_from_start q s i t = let e : values_start q s i + 4 * t ≡ 8 + 2 * series_count s + 4 * (i * q + t) = omega arith in ap (be32 s) e
+value_from_start q s i t = refl
 
 byte_part : (s : List ℕ) (a n k : ℕ) → k < n → byte (take n (drop a s)) k ≡ byte s (a + k)
 byte_part s a n k h = get_or-take n (drop a s) k 0 h ∙ get_or-drop a s k 0
