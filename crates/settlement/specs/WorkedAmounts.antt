@@ -1,9 +1,9 @@
 -- Worked figures of positions, trades, penalties and balance amounts.
-use Rattle.std.specs.Prelude.{◌≡◌, ℕ, true, cond, ◌&&◌, ℤ, pos, neg_ℤ, ◌==◌}
+use Rattle.std.specs.Prelude.{◌≡◌, ℕ, ◌*◌, Bool, true, false, cond, ◌&&◌, replicate, ℤ, pos, neg_ℤ, ◌==◌, slice_set}
 use Rattle.forms.specs.Slots.{out_to, in_from, cons, prod, pump}
 use Rattle.forms.specs.Figures.{GroupFigures}
 use Rattle.settlement.specs.declared.phase.Phase.TheVariants.{After}
-use Rattle.settlement.specs.Sheets.{Statements}
+use Rattle.settlement.specs.Sheets.{Statements, slots, sheet_size, slot_place, on_sheet}
 use Rattle.settlement.specs.Positions.{confirmed, open_position, excess}
 use Rattle.settlement.specs.Amounts.{penalty, balance_amount}
 
@@ -27,9 +27,14 @@ two_sides out taken a cons t = 0
 two_sides out taken a prod t = 0
 two_sides out taken a pump t = 0
 
--- out 200 against in 150, and against nothing
+-- in a sheet of two groups with 200 in each word, group 0 has sent its trades out to group 1; group 1 may have sent those in from group 0
+abbrev pub full_sheet : Bool → Statements
+full_sheet answered =
+    on_sheet 2 (slice_set (slice_set (replicate (2 * slots 2) false) (slot_place 2 0 (out_to 1)) true) (slot_place 2 1 (in_from 0)) answered) (replicate (sheet_size 2) 200)
+
+-- out 200 against in 150; against in 200, and against the same words in a slot that was not sent
 abbrev pub TradeFigures : Type 0
-TradeFigures = (confirmed (two_sides 200 150) 0 0 1 ≡ 150) × (confirmed (two_sides 200 0) 0 0 1 ≡ 0)
+TradeFigures = (confirmed (two_sides 200 150) 0 0 1 ≡ 150) × (confirmed (full_sheet true) 0 0 1 ≡ 200) × (confirmed (full_sheet false) 0 0 1 ≡ 0)
 
 abbrev pub PenaltyFigures : Type 0
 PenaltyFigures = (penalty (record { fee = 50000; rate = 8000 }) 14400 ≡ 78800) × (penalty (record { fee = 0; rate = 3999 }) 1 ≡ 0)

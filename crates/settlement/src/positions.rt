@@ -37,6 +37,7 @@ pub fn open_position(figures: &Group, value: i64) -> i64
 pub(crate) fn limit_for(figures: &Group, phase: Phase, position: i64) -> u32
     ensures { result ≡ limit_for (figures_of figures.now) phase position }
 {
+    // The one place that would look at the position if the limits of the two sides ever differed.
     let _ = position;
     match phase {
         Phase::Ahead => figures.limits.ahead,
