@@ -1,5 +1,6 @@
 -- What an accepted message leaves: the sender's series on the sheet are those of the message.
 use Rattle.std.proofs.Common.{◌≡◌, ℕ, zero, suc, ◌+◌, ◌*◌, ◌<◌, ◌≤◌, Bool, false, cond, eqb, ltb, List, length, get_or, pos, ◌-ℤ◌, is_some, Some, None, Option, sym, refl, ap, ◌∙◌, inl, inr, arith}
+use Rattle.std.specs.Option.{option_map}
 use Rattle.std.proofs.lemmas.List.FromFn.{get_or-map-range_with_len}
 use Rattle.std.proofs.lemmas.Bool.{cases_Bool, false≢true}
 use Rattle.forms.specs.Figures.{GroupFigures}
@@ -11,8 +12,9 @@ use Rattle.settlement.specs.Sheets.{Statements, Within, slots, slot_number, slot
 use Rattle.settlement.proofs.Places.{number_below, place_below, slot_again, on_sheet_sent, on_sheet_unsent}
 use Rattle.settlement.proofs.Sums.{sumℤ-same}
 use Rattle.settlement.specs.Sums.{sumℕ}
-use Rattle.book.specs.Messages.{sent_after, word_after, sheet_after, flags_after, by_message, count_where, state_with, beyond_now, beyond_at}
+use Rattle.book.specs.Messages.{sent_after, word_after, sheet_after, flags_after, by_message, state_with, beyond_now, beyond_at}
 use Rattle.book.specs.States.{State, size, figures, today, day_quarters}
+use Rattle.book.specs.Tallies.{count_where, tally}
 use Rattle.book.proofs.Days.{quarters_fit}
 use Rattle.book.proofs.ByMessage.{by_sender}
 use Rattle.book.proofs.Laying.{word_own}
@@ -59,16 +61,19 @@ stated_open_own S R f g t a h =
     let c = h cons tt in
     rw (trades, c) refl
 
--- tests that agree below n count alike and have the same first place
-pub count_same : (p r : ℕ → Bool) (n : ℕ) → ((k : ℕ) → k < n → p k ≡ r k) → count_where p n ≡ count_where r n
+-- tests that agree below n count alike and have the same first place, and so the same tally
+count_same : (p r : ℕ → Bool) (n : ℕ) → ((k : ℕ) → k < n → p k ≡ r k) → count_where p n ≡ count_where r n
 unfolding count_where sumℕ
 count_same p r zero h = refl
 count_same p r (suc n) h = let e = count_same p r n (λ k l. h k (omega arith)) in let x = h n (omega arith) in λ j. e j + cond (x j) 1 0
 
-pub first_same : (p r : ℕ → Bool) (n : ℕ) → ((k : ℕ) → k < n → p k ≡ r k) → first_of p n ≡ first_of r n
+first_same : (p r : ℕ → Bool) (n : ℕ) → ((k : ℕ) → k < n → p k ≡ r k) → first_of p n ≡ first_of r n
 unfolding first_of
 first_same p r zero h = refl
 first_same p r (suc n) h = let e = first_same p r n (λ k l. h k (omega arith)) in let x = h n (omega arith) in λ j. or_at (e j) (x j) n
+
+pub tally_same : (p r : ℕ → Bool) (n : ℕ) → ((k : ℕ) → k < n → p k ≡ r k) → tally p n ≡ tally r n
+tally_same p r n h = let c = count_same p r n h in let f = first_same p r n h in λ j. (c j, option_map (λ k. k + 1) (f j))
 
 -- the quarter hours beyond the limit, by the sheet afterwards and by the message
 pub beyond_same : (s : State) (own version : ℕ) (form sheet : List ℕ) → own < size s → length sheet ≡ sheet_size (size s) → size s * slots (size s) ≤ length s.sent

@@ -6,7 +6,7 @@ use Rattle.std.specs.Option.{option_map, option_or}
 use Rattle.message.proofs.Search.{range_more}
 use Rattle.message.specs.Places.{first_of, or_at}
 use Rattle.settlement.specs.Sums.{sumℕ}
-use Rattle.book.specs.Messages.{count_where}
+use Rattle.book.specs.Tallies.{count_where}
 
 pub count_none : (p : ℕ → Bool) → count_where p 0 ≡ 0
 unfolding count_where sumℕ

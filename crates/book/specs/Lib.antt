@@ -10,3 +10,4 @@ pub mod Queries
 pub mod Rows
 pub mod Sheets
 pub mod States
+pub mod Tallies

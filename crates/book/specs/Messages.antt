@@ -2,7 +2,6 @@
 use Rattle.std.specs.Prelude.{◌≡◌, ℕ, ◌+◌, ◌-◌, ◌*◌, ◌/◌, ◌%◌, ◌<◌, Bool, false, cond, not, ◌&&◌, ◌||◌, List, map, length, is_some, Ok, Err, Option, Result, ◌==◌, nat_le, nat_lt, slice_index, slice_index_or, slice_set}
 use Rattle.std.specs.Result.{result_and}
 use Rattle.std.specs.List.{range_with_len}
-use Rattle.std.specs.Option.{option_map}
 use Rattle.forms.specs.declared.fault.Fault.{Fault}
 use Rattle.forms.specs.declared.fault.Fault.TheVariants.{WrongDay, WrongVersion, MissingSeries, GrowingPosition}
 use Rattle.forms.specs.Checks.{Verdict, verdict, refuse_if, each_of, answer_if, if_passed}
@@ -13,15 +12,11 @@ use Rattle.message.specs.Values.{values_check}
 use Rattle.message.specs.Places.{first_of, sent_in, stated}
 use Rattle.settlement.specs.declared.phase.Phase.TheVariants.{After}
 use Rattle.settlement.specs.Positions.{stated_open, is_beyond, no_farther}
-use Rattle.settlement.specs.Sums.{sumℕ}
 use Rattle.settlement.specs.Sheets.{Statements, slots, slot_at, words_per_slot}
 use Rattle.book.specs.declared.answers.Submitted.{Submitted}
 use Rattle.book.specs.Queries.{day_check, group_check}
 use Rattle.book.specs.States.{State, GroupState, size, figures, kept, today, day_quarters, statements, is_after}
-
--- how many of the numbers below n pass a test
-unfoldable pub count_where : (ℕ → Bool) → ℕ → ℕ
-count_where p n = sumℕ (λ k. cond (p k) 1 0) n
+use Rattle.book.specs.Tallies.{tally}
 
 -- a message by itself: what the group that sends it says, and zero of every other
 unfoldable pub by_message : ℕ → ℕ → List ℕ → Statements
@@ -133,8 +128,7 @@ beyond_at s own form t = beyond_by (by_message own (day_quarters s) form) s own 
 
 -- how many there are, and the first, from 1
 abbrev pub beyond_count : State → ℕ → List ℕ → ℕ × Option ℕ
-beyond_count s own form =
-    (count_where (beyond_at s own form) (day_quarters s), option_map (λ t. t + 1) (first_of (beyond_at s own form) (day_quarters s)))
+beyond_count s own form = tally (beyond_at s own form) (day_quarters s)
 
 -- what submit answers, and the state and the sheet after it
 abbrev pub submitted : State → List ℕ → List ℕ → Result (ℕ × Option ℕ) Fault × State × List ℕ

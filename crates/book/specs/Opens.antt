@@ -3,7 +3,7 @@ use Rattle.std.specs.Prelude.{ℕ, false, not, List, length, replicate, Some, No
 use Rattle.std.specs.Result.{result_and}
 use Rattle.forms.specs.declared.fault.Fault.TheVariants.{WrongBuffer}
 use Rattle.forms.specs.Checks.{Verdict, refuse_if, if_passed}
-use Rattle.forms.specs.Figures.{Terms}
+use Rattle.forms.specs.Figures.{Terms, group_count}
 use Rattle.forms.specs.Openings.{sizes_check, rows_check, groups_told, terms_of}
 use Rattle.settlement.specs.declared.phase.Phase.TheVariants.{Ahead}
 use Rattle.book.specs.declared.opened.Opened.{Opened}
@@ -18,7 +18,7 @@ new_book terms = record {
   closed = 0;
   phase = Ahead;
   sent = replicate all_flags false;
-  groups = replicate (length terms.groups) nothing_kept;
+  groups = replicate (group_count terms) nothing_kept;
 }
 
 -- what a place holds: nothing, or a rule and a state

@@ -1,7 +1,7 @@
 -- What a book stands for. Groups and quarter hours count from 0, days from 1.
-use Rattle.std.specs.Prelude.{ℕ, ◌+◌, Bool, true, false, List, [], map, length, take, ℤ, pos, nat_le, slice_index_or}
+use Rattle.std.specs.Prelude.{ℕ, ◌+◌, Bool, true, false, List, [], map, take, ℤ, pos, nat_le, slice_index_or}
 use Rattle.forms.specs.Calendar.{year_days, quarters}
-use Rattle.forms.specs.Figures.{GroupFigures, Terms}
+use Rattle.forms.specs.Figures.{GroupFigures, Terms, group_count, figures_at}
 use Rattle.forms.specs.Openings.{terms_in}
 use Rattle.stage.specs.Marked.{marks_of}
 use Rattle.settlement.specs.declared.phase.Phase.{Phase}
@@ -45,18 +45,15 @@ state_of l = record {
   closed = l.closed;
   phase = l.phase;
   sent = l.sent;
-  groups = own_accounts (length (terms_in l.opening).groups) l.accounts;
+  groups = own_accounts (group_count (terms_in l.opening)) l.accounts;
 }
 
 -- how many groups there are, and what the opening form says of one
 abbrev pub size : State → ℕ
-size s = length s.terms.groups
-
-abbrev pub no_figures : GroupFigures
-no_figures = record { metered = false; prod_max = 0; pump_depth = 0; limits = record { ahead = 0; near = 0; after = 0 } }
+size s = group_count s.terms
 
 abbrev pub figures : State → ℕ → GroupFigures
-figures s a = slice_index_or s.terms.groups a no_figures
+figures s a = figures_at s.terms a
 
 -- what is kept for a group before anything has happened
 abbrev pub nothing_kept : GroupState

@@ -1,11 +1,10 @@
 //! Quarter hours beyond the limit.
-ghost use Rattle.std.specs.Prelude.{◌≡◌, ◌+◌, ◌^◌, ◌<◌, ◌≤◌, unsigned_abs};
-ghost use Rattle.std.specs.Option.{option_map};
+ghost use Rattle.std.specs.Prelude.{◌≡◌, ◌^◌, ◌<◌, ◌≤◌, unsigned_abs};
 ghost use Rattle.forms.specs.Figures.{figures_of};
-ghost use Rattle.message.specs.Places.{first_of};
 ghost use Rattle.settlement.specs.Positions.{open_position, is_beyond};
-ghost use Rattle.book.specs.Messages.{count_where, beyond_now};
+ghost use Rattle.book.specs.Messages.{beyond_now};
 ghost use Rattle.book.specs.States.{state_of, size, day_quarters};
+ghost use Rattle.book.specs.Tallies.{tally};
 
 use crate::answers::Submitted;
 use crate::open_day::OpenDay;
@@ -26,8 +25,7 @@ impl OpenDay<'_, '_> {
     /// the first of them.
     pub(crate) fn beyond(&self, own: usize) -> Submitted
         requires { own < size (state_of self.now.ledger.now) }
-        ensures count { result.beyond ≡ count_where (beyond_now (state_of self.now.ledger.now) self.now.sheet.now own) (day_quarters (state_of self.now.ledger.now)) }
-        ensures first { result.first ≡ option_map (λ t. t + 1) (first_of (beyond_now (state_of self.now.ledger.now) self.now.sheet.now own) (day_quarters (state_of self.now.ledger.now))) }
+        ensures { (result.beyond, result.first) ≡ tally (beyond_now (state_of self.now.ledger.now) self.now.sheet.now own) (day_quarters (state_of self.now.ledger.now)) }
     {
         let figures = self.ledger.figures(own);
         let day = self.on_sheet();

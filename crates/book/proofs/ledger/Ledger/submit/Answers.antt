@@ -1,15 +1,14 @@
-use Rattle.std.proofs.Common.{length, ◌≡◌, ℕ, ◌+◌, ◌<◌, nat_abs, set, sym, ap, ◌∙◌, arith, w64, to_z, of_z, rules}
+use Rattle.std.proofs.Common.{length, ◌≡◌, ℕ, ◌<◌, nat_abs, set, Option, sym, ap, ◌∙◌, arith, w64, to_z, of_z, rules}
 use Rattle.std.proofs.lemmas.Int.{to_z-of_z}
 use Rattle.std.proofs.lemmas.List.{length-set}
-use Rattle.std.specs.Option.{option_map}
 use Rattle.settlement.specs.Sheets.{sheet_size}
-use Rattle.message.specs.Places.{first_of}
 use Rattle.forms.proofs.OpeningLaws.{lawful_in}
 use Rattle.book.specs.declared.ledger.Ledger.{Ledger}
 use Rattle.book.specs.Kept.{days_in, penalties_in, balance_in}
-use Rattle.book.specs.Messages.{beyond_now, beyond_at, beyond_count, count_where, flags_after, state_with, sheet_after}
+use Rattle.book.specs.Messages.{beyond_now, beyond_at, beyond_count, flags_after, state_with, sheet_after}
 use Rattle.book.specs.States.{State, GroupState, state_of, size, day_quarters}
-use Rattle.book.proofs.Accepted.{beyond_same, count_same, first_same}
+use Rattle.book.specs.Tallies.{tally}
+use Rattle.book.proofs.Accepted.{beyond_same, tally_same}
 use Rattle.book.proofs.Accounts.{bounded_set, own_set}
 use Rattle.book.proofs.Days.{flags_enough}
 use Rattle.book.proofs.Submitting.{submit_accepted}
@@ -65,12 +64,9 @@ returns c =
     let enough = flags_enough g (omega (arith, (lawful_in l.opening).groups_most)) in
     let same : (t : ℕ) → t < q → beyond_now (state_with s x.own x.version form) (sheet_after g q x.own form sheet) x.own t ≡ beyond_at s x.own form t =
     beyond_same s x.own x.version form sheet mine room (omega (arith, enough, l.flags)) in
-    let count : c.beyond.result.beyond ≡ count_where (beyond_at s x.own form) q =
-    c.beyond.ensures.count ∙ (λ j. count_where (beyond_now (after j) (laid j) x.own) (day_quarters (after j))) ∙ count_same _ _ q same in
-    let first : c.beyond.result.first ≡ option_map (λ t. t + 1) (first_of (beyond_at s x.own form) q) =
-    c.beyond.ensures.first ∙ (λ j. option_map (λ t. t + 1) (first_of (beyond_now (after j) (laid j) x.own) (day_quarters (after j))))
-    ∙ ap (option_map (λ t. t + 1)) (first_same _ _ q same) in
+    let told : ◌≡◌ {A = ℕ × Option ℕ} (c.beyond.result.beyond, c.beyond.result.first) (tally (beyond_at s x.own form) q) =
+    c.beyond.ensures ∙ (λ j. tally (beyond_now (after j) (laid j) x.own) (day_quarters (after j))) ∙ tally_same _ _ q same in
     submit_accepted s sheet form _ _ _ c.in_ok-sending.ensures.0
-    ((λ j. (count j, first j)) ∙ ap (λ a. beyond_count s a form) found.3)
+    (told ∙ ap (λ a. beyond_count s a form) found.3)
     (after ∙ (λ j. state_with s (found.3 j) (found.4 j) form))
     (laid ∙ (λ j. sheet_after g q (found.3 j) form sheet))

@@ -1,8 +1,9 @@
 use Rattle.std.proofs.Common.{◌≡◌, ◌+◌, ◌≤◌}
 use Rattle.std.specs.Option.{option_map}
 use Rattle.message.specs.Places.{first_of}
-use Rattle.book.specs.Messages.{count_where, beyond_now}
+use Rattle.book.specs.Messages.{beyond_now}
 use Rattle.book.specs.States.{state_of}
+use Rattle.book.specs.Tallies.{count_where}
 use Rattle.book.proofs.open_day.OpenDay.beyond.Given as goal
 
 abbrev pub invariant-loop-t : goal.invariant-loop-t
