@@ -1,7 +1,6 @@
 -- Each answer that is no refusal is the number reckoned from the journal.
 use Rattle.std.proofs.Common.{◌≡◌, ℕ, ◌+◌, ◌-◌, ◌*◌, ◌<◌, ◌≤◌, Bool, true, not, ◌&&◌, eqb, ltb, leb, List, ◌∷◌, map, take, ℤ, Ok, Option, sym, refl, ap, ◌∙◌, arith}
 use Rattle.std.specs.List.{range_with_len}
-use Rattle.std.specs.Option.{option_map}
 use Rattle.std.proofs.lemmas.List.FromFn.{take-map-range_with_len}
 use Rattle.std.proofs.lemmas.Bool.{leb-true, and_parts}
 use Rattle.std.proofs.lemmas.Bool.Decides.{nat_tests}
@@ -11,7 +10,7 @@ use Rattle.forms.specs.Calendar.{quarters}
 use Rattle.forms.specs.Checks.{refuse_if, answer_if}
 use Rattle.forms.proofs.Firsts.{passed_left, passed_right, allowed}
 use Rattle.message.specs.Form.{said}
-use Rattle.message.specs.Places.{first_of, stated}
+use Rattle.message.specs.Places.{stated}
 use Rattle.stage.specs.Marked.{on_day}
 use Rattle.settlement.specs.declared.phase.Phase.{Phase}
 use Rattle.settlement.specs.declared.phase.Phase.TheVariants.{Ahead, Near, After}
@@ -19,12 +18,13 @@ use Rattle.settlement.specs.Positions.{stated_open, confirmed_open, net_purchase
 use Rattle.settlement.proofs.Agreement.{confirmed_same, net_purchases_same, stated_open_same, confirmed_open_same}
 use Rattle.book.specs.Closes.{day_row, day_rows}
 use Rattle.book.specs.Kept as state-kept
-use Rattle.book.specs.Messages.{submit_check, by_message, beyond_at, beyond_count, count_where}
+use Rattle.book.specs.Messages.{submit_check, by_message, beyond_at, beyond_count}
 use Rattle.std.specs.Int.{is_in_range}
 use Rattle.book.specs.Queries.{day_check, group_check, quarter_check, position_check, position_of, trade_check, standing_check, standing_answer, total_answer}
 use Rattle.book.specs.Rows.{Row}
 use Rattle.book.specs.States.{State, size, figures, kept, day_quarters, statements}
-use Rattle.book.proofs.Accepted.{stated_open_own, count_same, first_same}
+use Rattle.book.specs.Tallies.{tally}
+use Rattle.book.proofs.Accepted.{stated_open_own, tally_same}
 use Rattle.book.proofs.ByMessage.{by_sender}
 use Rattle.book.proofs.Meaning.{sender_named}
 use Rattle.journal.specs.Journals as journals
@@ -165,10 +165,7 @@ module _ (m : Meaning) (s : State) (w : List ℕ) (j : Journal) (k : Keeps m j s
     unfolding count_beyond
     count_right =
         let q : day_quarters s ≡ quarters (journals.today (e ∷ j)) = ap (λ n. quarters (n + 1)) (k.closed ∙ sym (same_closes m s w form j given x k accepted)) in
-        let n = count_same (beyond_at s own form) (beyond s.terms (e ∷ j) own) (day_quarters s) (λ t l. beyond_right t) in
-        let f = first_same (beyond_at s own form) (beyond s.terms (e ∷ j) own) (day_quarters s) (λ t l. beyond_right t) in
-        (λ i. (n i, option_map (λ t. t + 1) (f i)))
-        ∙ ap (λ z. (count_where (beyond s.terms (e ∷ j) own) z, option_map (λ t. t + 1) (first_of (beyond s.terms (e ∷ j) own) z))) q
+        tally_same (beyond_at s own form) (beyond s.terms (e ∷ j) own) (day_quarters s) (λ t l. beyond_right t) ∙ ap (tally (beyond s.terms (e ∷ j) own)) q
 
   -- the rows of a close
   module _ (form given : List ℕ) (count : ℕ) (rows : List Row) (p : s.phase ≡ After) where

@@ -4,11 +4,11 @@ use Rattle.std.specs.List.{range_with_len}
 use Rattle.std.proofs.lemmas.List.FromFn.{length-map-range_with_len, get_or-map-range_with_len, fill_by_all}
 use Rattle.forms.specs.Calendar.{quarters}
 use Rattle.forms.specs.Closings.{feed_in, long_price, short_price}
-use Rattle.forms.specs.Figures.{Terms}
+use Rattle.forms.specs.Figures.{Terms, group_count, figures_at}
 use Rattle.settlement.specs.Amounts.{is_marked, row_for, penalty, balance_amount}
 use Rattle.settlement.specs.Positions.{day_excess}
 use Rattle.journal.specs.Journals.{Entry, Journal, advanced_here, closed_here, closes, cut_offs, says}
-use Rattle.journal.specs.Reckoned.{groups, figures, excess_on, mark, marks_to, penalty_on, balance_on}
+use Rattle.journal.specs.Reckoned.{excess_on, mark, marks_to, penalty_on, balance_on}
 use Rattle.stage.specs.Rules.{Meaning}
 use Rattle.journal.proofs.Counting.{before_kept, form_kept}
 
@@ -30,7 +30,7 @@ module _ (terms : Terms) (e : Entry) (j : Journal) (a : ℕ) where
   pub excess_kept : (day : ℕ) → 1 ≤ day → day ≤ cut_offs j → excess_on terms (e ∷ j) a day ≡ excess_on terms j a day
   unfolding excess_on
   excess_kept day l h =
-      ap (λ part. day_excess (says part) (figures terms a) (groups terms) a (quarters day))
+      ap (λ part. day_excess (says part) (figures_at terms a) (group_count terms) a (quarters day))
       (before_kept advanced_here e j (2 * day - 1) (omega arith))
 
   pub marks_kept : (day : ℕ) → day ≤ cut_offs j → marks_to terms (e ∷ j) a day ≡ marks_to terms j a day
@@ -49,5 +49,5 @@ module _ (terms : Terms) (e : Entry) (j : Journal) (a : ℕ) where
       let part = before_kept closed_here e j (day - 1) (omega arith) in
       let form = form_kept e j day (omega arith) in
       let q = quarters day in
-      let g = groups terms in
+      let g = group_count terms in
       λ i. balance_amount (says (part i)) g a (feed_in q (form i) a) (long_price g q (form i)) (short_price g q (form i)) q

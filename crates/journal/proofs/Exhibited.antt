@@ -1,9 +1,9 @@
 -- The two journals, by computing their figures.
-use Rattle.std.proofs.Common.{◌≡◌, ℕ, ◌<◌, Bool, true, false, List, [], ◌∷◌, ◌++◌, length, replicate, ℤ, pos, nat_abs, Some, None, Ok, sym, refl, ap, ◌∙◌, arith}
+use Rattle.std.proofs.Common.{◌≡◌, ℕ, ◌<◌, Bool, true, false, List, [], ◌∷◌, ◌++◌, replicate, ℤ, pos, nat_abs, Some, None, Ok, sym, refl, ap, ◌∙◌, arith}
 use Rattle.std.proofs.lemmas.Bool.{le-leb}
 use Rattle.forms.specs.Calendar.{quarters}
 use Rattle.forms.specs.Checks.{each_of, if_passed}
-use Rattle.forms.specs.Figures.{Terms}
+use Rattle.forms.specs.Figures.{Terms, group_count}
 use Rattle.forms.specs.Openings.{terms_of, group_at, row_at}
 use Rattle.message.specs.Form.{value_at}
 use Rattle.message.specs.Places.{first_of, place_under, value_under}
@@ -15,11 +15,12 @@ use Rattle.settlement.specs.Positions.{confirmed, confirmed_with, stated_with, s
 use Rattle.settlement.specs.Sheets.{on_sheet}
 use Rattle.settlement.specs.Sums.{sumℕ, sumℤ}
 use Rattle.book.specs.Cuts.{cut_off, past_cut_off}
-use Rattle.book.specs.Messages.{submit_check, beyond_count, state_with, sheet_after, flags_after, by_message, count_where}
+use Rattle.book.specs.Messages.{submit_check, beyond_count, state_with, sheet_after, flags_after, by_message}
 use Rattle.book.specs.Opens.{open_check, new_book}
 use Rattle.book.specs.Queries.{day_check, standing_answer, total_answer}
 use Rattle.book.specs.Sheets.{all_powers}
 use Rattle.book.specs.States.{State, GroupState, nothing_kept}
+use Rattle.book.specs.Tallies.{count_where}
 use Rattle.book.proofs.Submitting.{submit_accepted}
 use Rattle.journal.specs.Books.{Unchanged, Stepped, Brings, JournalOf}
 use Rattle.journal.specs.Exhibit.{FartherCostsMore, opening, message, unsent, laid, idle, short}
@@ -148,7 +149,7 @@ farther day t l h b =
     let none = ap (λ d. nat_abs (open_at terms idle 0 d t)) (sym one) ∙ nothing_open t in
     le-leb (nat_abs (open_at terms idle 0 day t)) (nat_abs (open_at terms short 0 day t)) (omega (arith, none))
 
-there : 0 < length terms.groups
+there : 0 < group_count terms
 unfolding reading
 there = omega arith
 

@@ -3,7 +3,7 @@ use Rattle.std.proofs.Common.{◌≡◌, ℕ, ◌+◌, ◌-◌, ◌<◌, ◌≤�
 use Rattle.std.proofs.lemmas.List.FromFn.{get_or-map-range_with_len}
 use Rattle.std.proofs.lemmas.Bool.{ltb-true, lt-ltb}
 use Rattle.forms.specs.Calendar.{quarters}
-use Rattle.forms.specs.Figures.{Terms}
+use Rattle.forms.specs.Figures.{Terms, group_count, figures_at}
 use Rattle.stage.specs.Marked.{Under, on_day}
 use Rattle.stage.proofs.MarkLists.{on_day_next, under_from_days}
 use Rattle.settlement.specs.Amounts.{is_marked}
@@ -13,7 +13,7 @@ use Rattle.settlement.specs.Sums.{sumℕ}
 use Rattle.settlement.proofs.Laws.{farther_day_no_less, penalty_no_less}
 use Rattle.settlement.proofs.Sums.{sumℕ-le}
 use Rattle.journal.specs.Journals.{Journal, cut_offs, at_cut_off, says}
-use Rattle.journal.specs.Reckoned.{groups, figures, open_at, excess_on, mark, marks_to, stage, penalty_on, penalties}
+use Rattle.journal.specs.Reckoned.{open_at, excess_on, mark, marks_to, stage, penalty_on, penalties}
 use Rattle.stage.specs.Rules.{Meaning}
 use Rattle.journal.specs.Theorem.{Lawful, OneRule}
 use Rattle.journal.proofs.Earlier.{marks_same, length_marks_to}
@@ -45,7 +45,7 @@ module _ (terms : Terms) (m n : Meaning) (j k : Journal) (lawful : Lawful m) (on
   excess_no_less : (day : ℕ) → 1 ≤ day → day ≤ last → excess_on terms j a day ≤ excess_on terms k a day
   unfolding excess_on
   excess_no_less day l h =
-      farther_day_no_less (says (at_cut_off day j)) (says (at_cut_off day k)) (figures terms a) (groups terms) a (quarters day) (λ t b. far day t l h b)
+      farther_day_no_less (says (at_cut_off day j)) (says (at_cut_off day k)) (figures_at terms a) (group_count terms) a (quarters day) (λ t b. far day t l h b)
 
   marks_under : (day : ℕ) → day ≤ last → Under (marks_to terms j a day) (marks_to terms k a day)
   marks_under day h =

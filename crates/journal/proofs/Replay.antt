@@ -1,5 +1,5 @@
 -- A list of calls on the book's own sheet, call by call.
-use Rattle.std.proofs.Common.{◌≡◌, ℕ, List, [], ◌∷◌, map, length, replicate, Some, None, Ok, Err, Result, sym, refl, ap, ◌∙◌}
+use Rattle.std.proofs.Common.{◌≡◌, ℕ, List, [], ◌∷◌, map, length, replicate, Some, None, Ok, Err, Result, OnOk, sym, refl, ap, ◌∙◌}
 use Rattle.std.proofs.lemmas.List.{length-replicate}
 use Rattle.forms.specs.declared.fault.Fault.{Fault}
 use Rattle.forms.specs.Checks.{Verdict, if_passed, answer_if}
@@ -11,13 +11,13 @@ use Rattle.book.specs.Opens.{new_book, open_check, opened_by}
 use Rattle.book.specs.Queries.{position_answer, trade_answer, standing_answer, total_answer}
 use Rattle.book.specs.Rows.{Row, no_row}
 use Rattle.book.specs.States.{State}
-use Rattle.journal.specs.Books.{Own, Stepped, Brings}
+use Rattle.journal.specs.Books.{Stepped, Brings}
 use Rattle.journal.specs.Exists.{Call, call_of, Handed, OwnSheet, OneJournal}
 use Rattle.journal.specs.Journals.{Entry, Journal}
 use Rattle.stage.specs.Rules.{Meaning}
 use Rattle.journal.proofs.Opening.{state_new, sheet_new, fitted}
 
-pub own_itself : {A : Type 0} (answer : Result A Fault) (w : List ℕ) → Own answer w w
+pub own_itself : {A : Type 0} (answer : Result A Fault) (w : List ℕ) → OnOk answer (w ≡ w)
 own_itself (Ok x) w = refl
 own_itself (Err e) w = tt
 

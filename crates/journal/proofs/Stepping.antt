@@ -8,6 +8,7 @@ use Rattle.forms.specs.Bytes.{byte}
 use Rattle.forms.proofs.TermLaws.{opening_formed, length_groups}
 use Rattle.forms.specs.declared.fault.Fault.{Fault}
 use Rattle.forms.specs.Checks.{Verdict, verdict, if_passed, answer_if}
+use Rattle.forms.specs.Figures.{group_count}
 use Rattle.forms.specs.Openings.{groups_told, terms_of}
 use Rattle.stage.specs.Asked.{rule_asked}
 use Rattle.stage.specs.Rules.{Meaning}
@@ -30,7 +31,6 @@ use Rattle.journal.specs.Exists.{Call, Handed, OwnSheet}
 use Rattle.journal.specs.Journals.{Entry, Journal}
 use Rattle.journal.specs.Sessions.{rows_given, exchange_at, rows_in, exchange_of, Holds, OpeningBegins, FramesGoOn, StopsChangeNothing, QuestionsGoOn}
 use Rattle.session.specs.Runs.{Frame, told_at, state_after}
-use Rattle.journal.specs.Reckoned.{groups}
 use Rattle.journal.proofs.Opening.{sized, fitted}
 use Rattle.journal.proofs.Replay.{own_itself}
 use Rattle.journal.proofs.Running.{holds}
@@ -132,7 +132,7 @@ sheet_left_over (Ok u) rows after before = refl
 sheet_left_over (Err e) rows after before = refl
 
 -- a frame of a session that holds a book
-module _ (m : Meaning) (form : List ℕ) (j : Journal) (s : State) (w : List ℕ) (rows : List Row) (brings : Brings m form j s w) (own : OwnSheet m form j s w brings) (fit : length rows ≡ groups (terms_of form)) where
+module _ (m : Meaning) (form : List ℕ) (j : Journal) (s : State) (w : List ℕ) (rows : List Row) (brings : Brings m form j s w) (own : OwnSheet m form j s w brings) (fit : length rows ≡ group_count (terms_of form)) where
   abbrev x : SessionState
   x = record { rule = Some m; place = Some (m, s); sheet = w; rows = rows }
 
@@ -169,9 +169,9 @@ module _ (m : Meaning) (form : List ℕ) (j : Journal) (s : State) (w : List ℕ
         },
       )
 
-  rows_fit : (body : List ℕ) (v : Verdict) (sheet : List ℕ) → length (if_passed {B = Lent} v (record { sheet = sheet; rows = day_rows m s w body }) (record { sheet = w; rows = rows })).rows ≡ groups (terms_of form)
+  rows_fit : (body : List ℕ) (v : Verdict) (sheet : List ℕ) → length (if_passed {B = Lent} v (record { sheet = sheet; rows = day_rows m s w body }) (record { sheet = w; rows = rows })).rows ≡ group_count (terms_of form)
   unfolding day_rows
-  rows_fit body (Ok u) sheet = length-map-range_with_len (day_row m s w body) 0 (size s) ∙ ap groups (holds m form j s w brings).terms_same
+  rows_fit body (Ok u) sheet = length-map-range_with_len (day_row m s w body) 0 (size s) ∙ ap group_count (holds m form j s w brings).terms_same
   rows_fit body (Err e) sheet = fit
 
   next_ended : (body : List ℕ) → Next (Some (Call.close body (length rows))) (day_ended x body)
@@ -260,7 +260,7 @@ module _ (most : ℕ) (x : SessionState) (form : List ℕ) where
   served_all false n l h = absurd (omega (arith, h, mul-le-mul_left n l))
 
   rows_made : (m : Meaning) → opened_by None m form sheet_made ≡ (Ok tt, Some (m, new_book (terms_of form)), replicate (length sheet_made) 0)
-      → length (replicate (groups_served_for most form) no_row) ≡ groups (terms_of form)
+      → length (replicate (groups_served_for most form) no_row) ≡ group_count (terms_of form)
   rows_made m h =
       let some = (opening_formed form (sized m None form sheet_made (new_book (terms_of form)) (replicate (length sheet_made) 0) h)).groups_least in
       let fits = sym (length-replicate {A = ℕ} (sheet_size (groups_served_for most form)) 0) ∙ fitted m None form sheet_made (new_book (terms_of form)) (replicate (length sheet_made) 0) h in

@@ -1,12 +1,13 @@
 -- The theorem, part by part.
 use Rattle.std.proofs.Common.{◌≡◌, ℕ, ◌+◌, ◌-◌, ◌<◌, ◌≤◌, Bool, List, [], ◌∷◌, ℤ, Ok, sym, refl, ap, ◌∙◌, arith}
+use Rattle.forms.specs.Figures.{group_count}
 use Rattle.forms.specs.Openings.{terms_of}
 use Rattle.forms.specs.Lawful.{NeverFalls}
 use Rattle.settlement.proofs.Laws.{balanced, below_both}
 use Rattle.book.specs.States.{State, size}
 use Rattle.journal.specs.Books.{Brings, JournalOf, Unchanged}
 use Rattle.journal.specs.Journals.{Journal, standing, total, cut_offs, says}
-use Rattle.journal.specs.Reckoned.{groups, mark, stage, penalties, balance}
+use Rattle.journal.specs.Reckoned.{mark, stage, penalties, balance}
 use Rattle.stage.specs.Rules.{Meaning}
 use Rattle.journal.specs.Theorem.{Answers, Energy, MarksAlone, FartherNoCheaper, AskedNext, NobodyBends}
 use Rattle.journal.proofs.Answering.{standing_next, total_next}
@@ -25,7 +26,7 @@ answers : (form : List ℕ) → Answers form
 answers form m j (s, w, b) = all_right m form j s w b
 
 energy : (form : List ℕ) → Energy form
-energy form m j b t l = (balanced (says j) (groups (terms_of form)) t, λ a c p q. below_both (says j) t a c)
+energy form m j b t l = (balanced (says j) (group_count (terms_of form)) t, λ a c p q. below_both (says j) t a c)
 
 -- what standing and total answer next
 standing_told : (m : Meaning) (form : List ℕ) (j : Journal) (a day : ℕ) (x : Bool × ℕ) → JournalOf m form (standing (a + 1) day (Ok x) ∷ j) → x.1 ≡ stage m (terms_of form) j a day
@@ -59,7 +60,7 @@ farther_no_cheaper form m n j k lawful one (s, w, b) c many a there far =
 asked_next : (form : List ℕ) → AskedNext form
 asked_next form m j (s, w, b) a there =
     let h = holds m form j s w b in
-    let own : a < size s = omega (arith, there, ap groups h.terms_same) in
+    let own : a < size s = omega (arith, there, ap group_count h.terms_same) in
     let same : (s : State) (w : List ℕ) → Unchanged s w s w = λ s w. record { book = refl; sheet = refl } in (
       λ day low high.
           let told = standing_next m s w j h.keeps a day own low high ∙ ap (λ terms. Ok (mark terms j a day, stage m terms j a day)) h.terms_same in

@@ -1,6 +1,5 @@
 -- What a journal of a book is: each call works on that book, its rule and, unless it is refused, on the sheet given to open.
-use Rattle.std.specs.Prelude.{◌≡◌, ℕ, List, [], ◌∷◌, length, Some, Ok, Err, Option, Result}
-use Rattle.forms.specs.declared.fault.Fault.{Fault}
+use Rattle.std.specs.Prelude.{◌≡◌, ℕ, List, [], ◌∷◌, length, Some, Ok, Option, OnOk}
 use Rattle.book.specs.Closes.{closed_by}
 use Rattle.book.specs.Cuts.{advanced}
 use Rattle.book.specs.Messages.{submitted}
@@ -12,31 +11,27 @@ use Rattle.book.specs.States.{State}
 use Rattle.journal.specs.Journals.{Entry, submit, advance, close, position, trade, standing, total, Journal}
 use Rattle.stage.specs.Rules.{Meaning}
 
--- an accepted call had the book's own sheet; a refused one may have had another
-abbrev pub Own : {A : Type 0} → Result A Fault → List ℕ → List ℕ → Type 0
-Own (Ok _) given sheet = given ≡ sheet
-Own (Err _) given sheet = Unit {0}
-
 -- book and sheet are as they were: so a question leaves them
 pub record Unchanged (s : State) (w : List ℕ) (after : State) (left : List ℕ) : Type 0 where
   pub book : after ≡ s
   pub sheet : left ≡ w
 
--- Book and sheet before an entry, and after it. Answers and outcomes are those that the calls' contracts cite; only an accepted
--- message or close has changed the sheet. What stood in the rows that a close was lent has no part in it.
+-- Book and sheet before an entry, and after it. An accepted call had the book's own sheet; a refused one may have had another.
+-- Answers and outcomes are those that the calls' contracts cite; only an accepted message or close has changed the sheet. What
+-- stood in the rows that a close was lent has no part in it.
 abbrev pub Stepped : Meaning → Entry → State → List ℕ → State → List ℕ → Type 0
 Stepped m (submit form given answer) s w after left =
     let o = submitted s given form in
-    Own answer given w × (answer ≡ o.0) × (after ≡ o.1) × (left ≡ if_passed answer o.2 w)
+    OnOk answer (given ≡ w) × (answer ≡ o.0) × (after ≡ o.1) × (left ≡ if_passed answer o.2 w)
 Stepped m (advance given answer) s w after left =
     let o = advanced m s given in
-    Own answer given w × (answer ≡ o.0) × (after ≡ o.1) × (left ≡ w)
+    OnOk answer (given ≡ w) × (answer ≡ o.0) × (after ≡ o.1) × (left ≡ w)
 Stepped m (close form given rows answer) s w after left =
     (lent : List Row)
     × (let o = closed_by m s (record { sheet = given; rows = lent }) form in
-    Own answer given w × (length lent ≡ rows) × (answer ≡ answer_if o.0 o.2.rows) × (after ≡ o.1) × (left ≡ if_passed answer o.2.sheet w))
-Stepped m (position given group quarter answer) s w after left = Own answer given w × (answer ≡ position_answer s given group quarter) × Unchanged s w after left
-Stepped m (trade given from to quarter answer) s w after left = Own answer given w × (answer ≡ trade_answer s given from to quarter) × Unchanged s w after left
+    OnOk answer (given ≡ w) × (length lent ≡ rows) × (answer ≡ answer_if o.0 o.2.rows) × (after ≡ o.1) × (left ≡ if_passed answer o.2.sheet w))
+Stepped m (position given group quarter answer) s w after left = OnOk answer (given ≡ w) × (answer ≡ position_answer s given group quarter) × Unchanged s w after left
+Stepped m (trade given from to quarter answer) s w after left = OnOk answer (given ≡ w) × (answer ≡ trade_answer s given from to quarter) × Unchanged s w after left
 Stepped m (standing group day answer) s w after left = (answer ≡ standing_answer m s group day) × Unchanged s w after left
 Stepped m (total group answer) s w after left = (answer ≡ total_answer s group) × Unchanged s w after left
 

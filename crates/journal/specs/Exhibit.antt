@@ -1,10 +1,11 @@
 -- Two journals in which standing farther out does cost more.
 use Rattle.std.specs.Prelude.{◌≡◌, ℕ, zero, suc, ◌<◌, true, false, List, [], ◌∷◌, ◌++◌, replicate, pos, Some, Ok}
+use Rattle.forms.specs.Figures.{group_count}
 use Rattle.forms.specs.Openings.{terms_of}
 use Rattle.stage.specs.Rules.{rolling, Meaning}
 use Rattle.journal.specs.Books.{JournalOf}
 use Rattle.journal.specs.Journals.{Journal, submit, advance, standing, total, cut_offs}
-use Rattle.journal.specs.Reckoned.{groups, stage, penalties}
+use Rattle.journal.specs.Reckoned.{stage, penalties}
 use Rattle.journal.specs.Theorem.{Lawful, FartherAtCutOffs}
 
 -- Two books under one rule and one form have passed equally many cut-offs, and group a stands at least as far out in the second:
@@ -13,7 +14,7 @@ pub record CostsMore (m : Meaning) (form : List ℕ) (j k : Journal) (a : ℕ) :
   pub lawful : Lawful m
   pub first : JournalOf m form j
   pub second : JournalOf m form k
-  pub there : a < groups (terms_of form)
+  pub there : a < group_count (terms_of form)
   pub passed : cut_offs j ≡ cut_offs k
   pub farther : FartherAtCutOffs (terms_of form) j k a
   pub stage_higher : stage m (terms_of form) j a (cut_offs j) < stage m (terms_of form) k a (cut_offs j)

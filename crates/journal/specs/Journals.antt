@@ -1,5 +1,5 @@
 -- A journal: what one book was asked since it was opened, and what each call was answered. The newest entry stands first.
-use Rattle.std.specs.Prelude.{ℕ, zero, suc, ◌+◌, ◌-◌, ◌*◌, ◌/◌, Bool, true, false, cond, ◌&&◌, List, [], ◌∷◌, ℤ, Some, None, Ok, Err, Option, Result, ◌==◌}
+use Rattle.std.specs.Prelude.{ℕ, zero, suc, ◌+◌, ◌-◌, ◌*◌, ◌/◌, Bool, false, cond, ◌&&◌, List, [], ◌∷◌, ℤ, Some, None, Ok, Err, Option, Result, is_ok, ◌==◌}
 use Rattle.forms.specs.declared.fault.Fault.{Fault}
 use Rattle.forms.specs.Calendar.{quarters}
 use Rattle.forms.specs.Checks.{Verdict}
@@ -30,15 +30,10 @@ pub data Entry : Type 0 where
 abbrev pub Journal : Type 0
 Journal = List Entry
 
--- whether a call was accepted is read off its answer
-abbrev pub accepted : {A : Type 0} → Result A Fault → Bool
-accepted (Ok _) = true
-accepted (Err _) = false
-
--- an accepted advance
+-- an accepted advance; that a call was accepted is read off its answer
 abbrev pub advanced_here : Entry → Bool
 advanced_here (submit form sheet answer) = false
-advanced_here (advance sheet answer) = accepted answer
+advanced_here (advance sheet answer) = is_ok answer
 advanced_here (close form sheet rows answer) = false
 advanced_here (position sheet group quarter answer) = false
 advanced_here (trade sheet from to quarter answer) = false
@@ -49,7 +44,7 @@ advanced_here (total group answer) = false
 abbrev pub closed_here : Entry → Bool
 closed_here (submit form sheet answer) = false
 closed_here (advance sheet answer) = false
-closed_here (close form sheet rows answer) = accepted answer
+closed_here (close form sheet rows answer) = is_ok answer
 closed_here (position sheet group quarter answer) = false
 closed_here (trade sheet from to quarter answer) = false
 closed_here (standing group day answer) = false

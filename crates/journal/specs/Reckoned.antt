@@ -1,33 +1,24 @@
 -- The account as it is reckoned from a journal: groups and quarter hours count from 0, days from 1.
-use Rattle.std.specs.Prelude.{ℕ, ◌+◌, Bool, List, map, length, ℤ, Option, slice_index_or}
+use Rattle.std.specs.Prelude.{ℕ, ◌+◌, Bool, List, map, ℤ, Option}
 use Rattle.std.specs.List.{range_with_len}
-use Rattle.std.specs.Option.{option_map}
 use Rattle.forms.specs.Calendar.{quarters}
 use Rattle.forms.specs.Closings.{feed_in, long_price, short_price}
-use Rattle.forms.specs.Figures.{GroupFigures, Terms}
-use Rattle.message.specs.Places.{first_of}
+use Rattle.forms.specs.Figures.{Terms, group_count, figures_at}
 use Rattle.stage.specs.Rules.{Meaning}
 use Rattle.settlement.specs.Amounts.{is_marked, row_for, penalty, balance_amount}
 use Rattle.settlement.specs.Positions.{stated_open, confirmed_open, is_beyond, day_excess}
 use Rattle.settlement.specs.Sums.{sumℕ, sumℤ}
-use Rattle.book.specs.Messages.{count_where}
 use Rattle.book.specs.Rows.{Row}
-use Rattle.book.specs.States.{no_figures}
+use Rattle.book.specs.Tallies.{tally}
 use Rattle.journal.specs.Journals.{Journal, closes, cut_offs, today, phase, at_cut_off, at_close, closing_form, says}
-
-abbrev pub groups : Terms → ℕ
-groups terms = length terms.groups
-
-abbrev pub figures : Terms → ℕ → GroupFigures
-figures terms a = slice_index_or terms.groups a no_figures
 
 -- group a's confirmed open position at the cut-off of a day, in quarter hour t
 abbrev pub open_at : Terms → Journal → ℕ → ℕ → ℕ → ℤ
-open_at terms j a day t = confirmed_open (says (at_cut_off day j)) (figures terms a) (groups terms) t a
+open_at terms j a day t = confirmed_open (says (at_cut_off day j)) (figures_at terms a) (group_count terms) t a
 
 -- E of a day, whether the day is marked, and the marks of days 1 to a day
 unfoldable pub excess_on : Terms → Journal → ℕ → ℕ → ℕ
-excess_on terms j a day = day_excess (says (at_cut_off day j)) (figures terms a) (groups terms) a (quarters day)
+excess_on terms j a day = day_excess (says (at_cut_off day j)) (figures_at terms a) (group_count terms) a (quarters day)
 
 abbrev pub mark : Terms → Journal → ℕ → ℕ → Bool
 mark terms j a day = is_marked (excess_on terms j a day)
@@ -50,7 +41,7 @@ unfoldable pub balance_on : Terms → Journal → ℕ → ℕ → ℤ
 balance_on terms j a day =
     let q = quarters day in
     let form = closing_form day j in
-    balance_amount (says (at_close day j)) (groups terms) a (feed_in q form a) (long_price (groups terms) q form) (short_price (groups terms) q form) q
+    balance_amount (says (at_close day j)) (group_count terms) a (feed_in q form a) (long_price (group_count terms) q form) (short_price (group_count terms) q form) q
 
 unfoldable pub balance : Terms → Journal → ℕ → ℤ
 balance terms j a = sumℤ (λ k. balance_on terms j a (k + 1)) (closes j)
@@ -68,10 +59,8 @@ row m terms j day a = record {
 
 -- a quarter hour in which group a's open position, as it stands stated, is beyond the limit of the phase
 abbrev pub beyond : Terms → Journal → ℕ → ℕ → Bool
-beyond terms j a t = is_beyond (figures terms a) (phase j) (stated_open (says j) (figures terms a) (groups terms) t a)
+beyond terms j a t = is_beyond (figures_at terms a) (phase j) (stated_open (says j) (figures_at terms a) (group_count terms) t a)
 
 -- how many there are, and the first, from 1
 unfoldable pub count_beyond : Terms → Journal → ℕ → ℕ × Option ℕ
-count_beyond terms j a =
-    let q = quarters (today j) in
-    (count_where (beyond terms j a) q, option_map (λ t. t + 1) (first_of (beyond terms j a) q))
+count_beyond terms j a = tally (beyond terms j a) (quarters (today j))

@@ -2,6 +2,7 @@
 use Rattle.std.specs.Prelude.{◌≡◌, ◌≢◌, ℕ, Bool, true, false, cond, List, [], ◌∷◌, ◌++◌, map, length, is_some, Some, None, Ok, Err, Option, Result, ◌==◌}
 use Rattle.forms.specs.declared.fault.Fault.{Fault}
 use Rattle.forms.specs.Checks.{verdict}
+use Rattle.forms.specs.Figures.{group_count}
 use Rattle.forms.specs.Openings.{terms_of}
 use Rattle.stage.specs.Asked.{rule_asked}
 use Rattle.stage.specs.Rules.{Meaning}
@@ -16,7 +17,6 @@ use Rattle.session.specs.Views.{SessionState}
 use Rattle.journal.specs.Books.{Brings}
 use Rattle.journal.specs.Exists.{Call, call_of, OwnSheet}
 use Rattle.journal.specs.Journals.{Entry, Journal}
-use Rattle.journal.specs.Reckoned.{groups}
 use Rattle.journal.specs.Theorem.{Lawful}
 
 abbrev pub rule_frame : List ℕ → Frame
@@ -95,7 +95,7 @@ pub record Holds (m : Meaning) (form : List ℕ) (j : Journal) (x : SessionState
   pub place : x.place ≡ Some (m, book)
   pub brings : Brings m form j book x.sheet
   pub own : OwnSheet m form j book x.sheet brings
-  pub rows : length x.rows ≡ groups (terms_of form)
+  pub rows : length x.rows ≡ group_count (terms_of form)
 
 -- A frame that opens a book begins its journal, under the rule that the session has.
 abbrev pub OpeningBegins : ℕ → Type 0

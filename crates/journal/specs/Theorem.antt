@@ -1,10 +1,10 @@
 -- Nobody who sends messages can bend the account. The words: what a journal is and what is counted in it in Journals, the numbers
 -- reckoned from it in Reckoned, a journal of a book in Books. docs/JOURNAL.md has each sentence beside its definition.
-use Rattle.std.specs.Prelude.{◌≡◌, ℕ, ◌+◌, ◌-◌, ◌<◌, ◌≤◌, Bool, true, List, [], ◌∷◌, map, length, ℤ, pos, Ok, Err, Result}
+use Rattle.std.specs.Prelude.{◌≡◌, ℕ, ◌+◌, ◌-◌, ◌<◌, ◌≤◌, Bool, true, List, [], ◌∷◌, map, length, ℤ, pos, Ok, Result, IfOk}
 use Rattle.std.specs.List.{range_with_len}
 use Rattle.forms.specs.declared.fault.Fault.{Fault}
 use Rattle.forms.specs.Calendar.{year_days, quarters}
-use Rattle.forms.specs.Figures.{Terms}
+use Rattle.forms.specs.Figures.{Terms, group_count, figures_at}
 use Rattle.forms.specs.Openings.{terms_of}
 use Rattle.forms.specs.Slots.{out_to, in_from}
 use Rattle.message.specs.Form.{said}
@@ -13,23 +13,22 @@ use Rattle.settlement.specs.Positions.{confirmed, stated_open, confirmed_open, n
 use Rattle.settlement.specs.Sums.{sumℤ}
 use Rattle.journal.specs.Books.{JournalOf}
 use Rattle.journal.specs.Journals.{Entry, submit, advance, close, position, trade, standing, total, Journal, cut_offs, today, says}
-use Rattle.journal.specs.Reckoned.{groups, figures, open_at, mark, stage, penalties, balance, row, count_beyond}
+use Rattle.journal.specs.Reckoned.{open_at, mark, stage, penalties, balance, row, count_beyond}
 use Rattle.stage.specs.Rules.{Meaning}
 
 -- an answer that is no refusal is this
 abbrev pub Is : {A : Type 0} → Result A Fault → A → Type 0
-Is (Ok x) y = x ≡ y
-Is (Err _) y = Unit {0}
+Is answer value = IfOk answer (λ x. x ≡ value)
 
 -- The newest answer is the number so reckoned; j is the journal before it.
 abbrev pub Right : Meaning → Terms → Entry → Journal → Type 0
 Right m terms (submit form sheet answer) j = Is answer (count_beyond terms (submit form sheet answer ∷ j) ((said form).group - 1))
 Right m terms (advance sheet answer) j = Unit {0}
-Right m terms (close form sheet rows answer) j = Is answer (map (row m terms (close form sheet rows answer ∷ j) (today j)) (range_with_len 0 (groups terms)))
+Right m terms (close form sheet rows answer) j = Is answer (map (row m terms (close form sheet rows answer ∷ j) (today j)) (range_with_len 0 (group_count terms)))
 Right m terms (position sheet group quarter answer) j =
     let a = group - 1 in
     let t = quarter - 1 in
-    Is answer (stated_open (says j) (figures terms a) (groups terms) t a, confirmed_open (says j) (figures terms a) (groups terms) t a, net_purchases (says j) (groups terms) t a)
+    Is answer (stated_open (says j) (figures_at terms a) (group_count terms) t a, confirmed_open (says j) (figures_at terms a) (group_count terms) t a, net_purchases (says j) (group_count terms) t a)
 Right m terms (trade sheet from to quarter answer) j = Is answer (confirmed (says j) (quarter - 1) (from - 1) (to - 1))
 Right m terms (standing group day answer) j = Is answer (mark terms j (group - 1) day, stage m terms j (group - 1) day)
 Right m terms (total group answer) j = Is answer (penalties m terms j (group - 1), balance terms j (group - 1))
@@ -47,8 +46,8 @@ Answers form = (m : Meaning) (j : Journal) → JournalOf m form j → AllRight m
 abbrev pub Energy : List ℕ → Type 0
 Energy form =
     (m : Meaning) (j : Journal) → JournalOf m form j → (t : ℕ) → t < quarters (today j)
-    → (sumℤ (net_purchases (says j) (groups (terms_of form)) t) (groups (terms_of form)) ≡ pos 0)
-    × ((a b : ℕ) → a < groups (terms_of form) → b < groups (terms_of form)
+    → (sumℤ (net_purchases (says j) (group_count (terms_of form)) t) (group_count (terms_of form)) ≡ pos 0)
+    × ((a b : ℕ) → a < group_count (terms_of form) → b < group_count (terms_of form)
     → (confirmed (says j) t a b ≤ says j a (out_to b) t) × (confirmed (says j) t a b ≤ says j b (in_from a) t))
 
 -- two rules that say the same of the marks of 1 day up to a year's, whatever their types
@@ -59,7 +58,7 @@ OneRule m n = (xs : List Bool) → 1 ≤ length xs → length xs ≤ year_days �
 abbrev pub MarksAlone : List ℕ → Type 0
 MarksAlone form =
     (m n : Meaning) (j k : Journal) → OneRule m n → JournalOf m form j → JournalOf n form k
-    → (a day : ℕ) → a < groups (terms_of form) → 1 ≤ day → day ≤ cut_offs j → day ≤ cut_offs k
+    → (a day : ℕ) → a < group_count (terms_of form) → 1 ≤ day → day ≤ cut_offs j → day ≤ cut_offs k
     → ((d : ℕ) → 1 ≤ d → d ≤ day → mark (terms_of form) j a d ≡ mark (terms_of form) k a d)
     → (stage m (terms_of form) j a day ≡ stage n (terms_of form) k a day)
     × ((x y : Bool × ℕ) → JournalOf m form (standing (a + 1) day (Ok x) ∷ j) → JournalOf n form (standing (a + 1) day (Ok y) ∷ k) → x.1 ≡ y.1)
@@ -78,7 +77,7 @@ FartherAtCutOffs terms j k a = (day t : ℕ) → 1 ≤ day → day ≤ cut_offs 
 abbrev pub FartherNoCheaper : List ℕ → Type 0
 FartherNoCheaper form =
     (m n : Meaning) (j k : Journal) → Lawful m → OneRule m n → JournalOf m form j → JournalOf n form k
-    → cut_offs j ≡ cut_offs k → (a : ℕ) → a < groups (terms_of form)
+    → cut_offs j ≡ cut_offs k → (a : ℕ) → a < group_count (terms_of form)
     → FartherAtCutOffs (terms_of form) j k a
     → ((day : ℕ) → 1 ≤ day → day ≤ cut_offs j
     → (stage m (terms_of form) j a day ≤ stage n (terms_of form) k a day)
@@ -89,7 +88,7 @@ FartherNoCheaper form =
 -- 5. Asked next, standing and total answer: of each day past its cut-off the reckoned mark and stage, and the reckoned penalties and balance.
 abbrev pub AskedNext : List ℕ → Type 0
 AskedNext form =
-    (m : Meaning) (j : Journal) → JournalOf m form j → (a : ℕ) → a < groups (terms_of form)
+    (m : Meaning) (j : Journal) → JournalOf m form j → (a : ℕ) → a < group_count (terms_of form)
     → ((day : ℕ) → 1 ≤ day → day ≤ cut_offs j → JournalOf m form (standing (a + 1) day (Ok (mark (terms_of form) j a day, stage m (terms_of form) j a day)) ∷ j))
     × JournalOf m form (total (a + 1) (Ok (penalties m (terms_of form) j a, balance (terms_of form) j a)) ∷ j)
 
