@@ -1,5 +1,6 @@
 -- What each call makes of a place, empty or with a book. A call on an empty place is refused, ahead of every other test.
 use Rattle.std.specs.Prelude.{ℕ, Bool, List, ℤ, Some, None, Err, Option, Result}
+use Rattle.std.specs.Option.{option_map_or}
 use Rattle.forms.specs.declared.fault.Fault.{Fault}
 use Rattle.forms.specs.declared.fault.Fault.TheVariants.{WrongPhase}
 use Rattle.forms.specs.Checks.{Verdict}
@@ -45,9 +46,7 @@ asks_total (Some p) group = total_answer p.1 group
 
 -- how many groups a place has, and how many days past their cut-off
 abbrev pub groups_in : {R : Type 0} → Place R → ℕ
-groups_in None = 0
-groups_in (Some p) = size p.1
+groups_in place = option_map_or (λ p. size p.1) place 0
 
 abbrev pub days_cut_in : {R : Type 0} → Place R → ℕ
-days_cut_in None = 0
-days_cut_in (Some p) = cut_offs p.1.closed p.1.phase
+days_cut_in place = option_map_or (λ p. cut_offs p.1.closed p.1.phase) place 0

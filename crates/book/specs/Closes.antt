@@ -7,7 +7,7 @@ use Rattle.forms.specs.Checks.{Verdict, refuse_if, if_passed}
 use Rattle.forms.specs.Closings.{ClosingFormed, closing_sizes, closing_check, feed_in, long_price, short_price}
 use Rattle.stage.specs.Marked.{on_day}
 use Rattle.settlement.specs.declared.phase.Phase.TheVariants.{Ahead}
-use Rattle.settlement.specs.Amounts.{quarter_cost, balance_amount}
+use Rattle.settlement.specs.Amounts.{quarter_cost, balance_by}
 use Rattle.book.specs.Rows.{Row}
 use Rattle.book.specs.Queries.{day_check}
 use Rattle.book.specs.States.{State, GroupState, size, kept, today, day_quarters, statements, is_after}
@@ -33,9 +33,7 @@ quarter_today s sheet form a t =
 
 -- the balance amount of the current day
 unfoldable pub balance_today : State → List ℕ → List ℕ → ℕ → ℤ
-balance_today s sheet form a =
-    balance_amount (statements s sheet) (size s) a (feed_in (day_quarters s) form a)
-    (long_price (size s) (day_quarters s) form) (short_price (size s) (day_quarters s) form) (day_quarters s)
+balance_today s sheet form a = balance_by (statements s sheet) (size s) form a (day_quarters s)
 
 -- the result row of a group: mark, stage and penalty as fixed at the cut-off, and a balance amount
 abbrev pub row_with : (List Bool → ℕ) → State → ℕ → ℤ → Row

@@ -7,14 +7,14 @@ use Rattle.forms.specs.Figures.{RateFigures}
 use Rattle.forms.specs.Checks.{Verdict, refuse_if, if_passed}
 use Rattle.settlement.specs.declared.phase.Phase.{Phase}
 use Rattle.settlement.specs.declared.phase.Phase.TheVariants.{Ahead, Near, After}
-use Rattle.settlement.specs.Positions.{day_excess}
+use Rattle.settlement.specs.Positions.{excess_by}
 use Rattle.settlement.specs.Amounts.{is_marked, row_for, penalty}
 use Rattle.book.specs.Queries.{day_check}
-use Rattle.book.specs.States.{State, GroupState, size, figures, kept, is_after, day_quarters, statements}
+use Rattle.book.specs.States.{State, GroupState, size, kept, is_after, day_quarters, statements}
 
 -- E of the current day
 abbrev pub excess_today : State → List ℕ → ℕ → ℕ
-excess_today s sheet a = day_excess (statements s sheet) (figures s a) (size s) a (day_quarters s)
+excess_today s sheet a = excess_by s.terms (statements s sheet) a (day_quarters s)
 
 -- a group once its day's excess is known: one mark more, its penalty by the stage that the rule gives to the marks
 abbrev pub charged : (List Bool → ℕ) → List RateFigures → GroupState → ℕ → GroupState

@@ -1,6 +1,6 @@
 -- What submit does.
-use Rattle.std.specs.Prelude.{◌≡◌, ℕ, ◌+◌, ◌-◌, ◌*◌, ◌/◌, ◌%◌, ◌<◌, Bool, false, cond, not, ◌&&◌, ◌||◌, List, map, length, is_some, Ok, Err, Option, Result, ◌==◌, nat_le, nat_lt, slice_index, slice_index_or, slice_set}
-use Rattle.std.specs.Result.{result_and}
+use Rattle.std.specs.Prelude.{◌≡◌, ℕ, ◌+◌, ◌-◌, ◌*◌, ◌/◌, ◌%◌, ◌<◌, Bool, false, cond, not, ◌&&◌, ◌||◌, List, map, length, is_some, Ok, Option, Result, ◌==◌, nat_le, nat_lt, slice_index, slice_index_or, slice_set}
+use Rattle.std.specs.Result.{result_and, result_map_both}
 use Rattle.std.specs.List.{range_with_len}
 use Rattle.forms.specs.declared.fault.Fault.{Fault}
 use Rattle.forms.specs.declared.fault.Fault.TheVariants.{WrongDay, WrongVersion, MissingSeries, GrowingPosition}
@@ -11,7 +11,7 @@ use Rattle.message.specs.Heads.{heads_check}
 use Rattle.message.specs.Values.{values_check}
 use Rattle.message.specs.Places.{first_of, sent_in, stated}
 use Rattle.settlement.specs.declared.phase.Phase.TheVariants.{After}
-use Rattle.settlement.specs.Positions.{stated_open, is_beyond, no_farther}
+use Rattle.settlement.specs.Positions.{stated_open, no_farther, beyond_by}
 use Rattle.settlement.specs.Sheets.{Statements, slots, slot_at, words_per_slot}
 use Rattle.book.specs.declared.answers.Submitted.{Submitted}
 use Rattle.book.specs.Queries.{day_check, group_check}
@@ -41,7 +41,7 @@ incomplete s own form =
 -- 15: after the cut-off a trading group's stated open position is beyond its limit, and farther out than the last accepted
 unfoldable pub grows_at : State → List ℕ → ℕ → List ℕ → ℕ → Bool
 grows_at s sheet own form t =
-    is_beyond (figures s own) After (stated_open (by_message own (day_quarters s) form) (figures s own) (size s) t own)
+    beyond_by s.terms (by_message own (day_quarters s) form) After own t
     && not (no_farther (stated_open (by_message own (day_quarters s) form) (figures s own) (size s) t own) (stated_open (statements s sheet) (figures s own) (size s) t own))
 
 -- the first of n quarter hours at which it does is named
@@ -114,17 +114,13 @@ state_with s own version form = record {
   groups = slice_set s.groups own (with_version (kept s own) version);
 }
 
--- a quarter hour in which group own's stated open position is beyond the limit of the phase
-abbrev beyond_by : Statements → State → ℕ → ℕ → Bool
-beyond_by S s own t = is_beyond (figures s own) s.phase (stated_open S (figures s own) (size s) t own)
-
--- the same by the sheet
+-- a quarter hour in which group own's stated open position, by the sheet, is beyond the limit of the phase
 unfoldable pub beyond_now : State → List ℕ → ℕ → ℕ → Bool
-beyond_now s sheet own t = beyond_by (statements s sheet) s own t
+beyond_now s sheet own t = beyond_by s.terms (statements s sheet) s.phase own t
 
--- and by the message
+-- the same by the message
 abbrev pub beyond_at : State → ℕ → List ℕ → ℕ → Bool
-beyond_at s own form t = beyond_by (by_message own (day_quarters s) form) s own t
+beyond_at s own form t = beyond_by s.terms (by_message own (day_quarters s) form) s.phase own t
 
 -- how many there are, and the first, from 1
 abbrev pub beyond_count : State → ℕ → List ℕ → ℕ × Option ℕ
@@ -140,5 +136,4 @@ submitted s sheet form = (
 
 -- the same answer as the code holds it
 abbrev pub submitted_of : Result Submitted Fault → Result (ℕ × Option ℕ) Fault
-submitted_of (Ok x) = Ok (x.beyond, x.first)
-submitted_of (Err e) = Err e
+submitted_of r = result_map_both (λ x. (x.beyond, x.first)) (λ e. e) r

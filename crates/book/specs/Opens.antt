@@ -1,5 +1,6 @@
 -- What open does, and what a place holds.
-use Rattle.std.specs.Prelude.{ℕ, false, not, List, length, replicate, Some, None, Option}
+use Rattle.std.specs.Prelude.{ℕ, false, not, List, length, replicate, Some, Option}
+use Rattle.std.specs.Option.{option_map}
 use Rattle.std.specs.Result.{result_and}
 use Rattle.forms.specs.declared.fault.Fault.TheVariants.{WrongBuffer}
 use Rattle.forms.specs.Checks.{Verdict, refuse_if, if_passed}
@@ -23,8 +24,7 @@ new_book terms = record {
 
 -- what a place holds: nothing, or a rule and a state
 abbrev pub held_in : {R : Type 0} → Option (Opened R) → Option (R × State)
-held_in None = None
-held_in (Some b) = Some (b.rule, state_of b.ledger)
+held_in place = option_map (λ b. (b.rule, state_of b.ledger)) place
 
 abbrev pub open_check : List ℕ → List ℕ → Verdict
 open_check form sheet =

@@ -1,17 +1,17 @@
 -- What the questions answer. None of them changes anything.
-use Rattle.std.specs.Prelude.{◌≡◌, ℕ, ◌-◌, ◌<◌, ◌≤◌, Bool, not, ◌&&◌, List, take, ℤ, Ok, Err, Result, ◌==◌}
+use Rattle.std.specs.Prelude.{◌≡◌, ℕ, ◌-◌, ◌<◌, ◌≤◌, Bool, not, ◌&&◌, List, take, ℤ, Result, ◌==◌}
 use Rattle.std.specs.Int.{is_in_range}
-use Rattle.std.specs.Result.{result_and}
+use Rattle.std.specs.Result.{result_and, result_map_both}
 use Rattle.forms.specs.declared.fault.Fault.{Fault}
 use Rattle.forms.specs.declared.fault.Fault.TheVariants.{WrongPhase, WrongBuffer, WrongGroup, WrongDay, OutOfRange}
 use Rattle.forms.specs.Checks.{Verdict, refuse_if, answer_if, Finds}
 use Rattle.stage.specs.Marked.{on_day}
-use Rattle.settlement.specs.Positions.{stated_open, confirmed_open, net_purchases, confirmed}
+use Rattle.settlement.specs.Positions.{confirmed, positions_by}
 use Rattle.book.specs.declared.answers.Standing.{Standing}
 use Rattle.book.specs.declared.answers.Total.{Total}
 use Rattle.book.specs.Kept.{cut_offs}
 use Rattle.book.specs.Sheets.{sheet_fits}
-use Rattle.book.specs.States.{State, size, figures, kept, day_quarters, year_over, statements}
+use Rattle.book.specs.States.{State, size, kept, day_quarters, year_over, statements}
 
 -- a number that passed its check has a place from 0, below n
 abbrev pub Numbered : Result ℕ Fault → Verdict → ℕ → ℕ → Type 0
@@ -36,11 +36,7 @@ position_check s sheet group quarter =
     (result_and (group_check s group) (quarter_check s quarter))
 
 abbrev pub position_of : State → List ℕ → ℕ → ℕ → ℤ × ℤ × ℤ
-position_of s sheet a t = (
-  stated_open (statements s sheet) (figures s a) (size s) t a,
-  confirmed_open (statements s sheet) (figures s a) (size s) t a,
-  net_purchases (statements s sheet) (size s) t a,
-)
+position_of s sheet a t = positions_by s.terms (statements s sheet) a t
 
 abbrev pub position_answer : State → List ℕ → ℕ → ℕ → Result (ℤ × ℤ × ℤ) Fault
 position_answer s sheet group quarter = answer_if (position_check s sheet group quarter) (position_of s sheet (group - 1) (quarter - 1))
@@ -72,9 +68,7 @@ total_answer s group =
 
 -- the same answers as the code holds them
 abbrev pub standing_of : Result Standing Fault → Result (Bool × ℕ) Fault
-standing_of (Ok x) = Ok (x.mark, x.stage)
-standing_of (Err e) = Err e
+standing_of r = result_map_both (λ x. (x.mark, x.stage)) (λ e. e) r
 
 abbrev pub total_of : Result Total Fault → Result (ℕ × ℤ) Fault
-total_of (Ok x) = Ok (x.penalties, x.balance)
-total_of (Err e) = Err e
+total_of r = result_map_both (λ x. (x.penalties, x.balance)) (λ e. e) r

@@ -1,5 +1,5 @@
 -- Checks one after another: the first fault answers.
-use Rattle.std.specs.Prelude.{◌≡◌, ℕ, zero, suc, ◌<◌, Bool, cond, Ok, Err, Result}
+use Rattle.std.specs.Prelude.{◌≡◌, ℕ, zero, suc, ◌<◌, Bool, cond, Ok, Err, Result, MatchResult}
 use Rattle.std.specs.Result.{result_and}
 use Rattle.forms.specs.declared.fault.Fault.{Fault}
 
@@ -9,8 +9,7 @@ Verdict = Result (Unit {0}) Fault
 
 -- whether an answer is a fault, and which
 abbrev pub verdict : {T : Type 0} → Result T Fault → Verdict
-verdict (Ok _) = Ok tt
-verdict (Err e) = Err e
+verdict r = result_and r (Ok tt)
 
 -- the fault where the test is met
 abbrev pub refuse_if : Bool → Fault → Verdict
@@ -18,8 +17,7 @@ refuse_if b e = cond b (Err e) (Ok tt)
 
 -- the answer where the checks have passed, else their fault
 abbrev pub answer_if : {A : Type 0} → Verdict → A → Result A Fault
-answer_if (Ok _) x = Ok x
-answer_if (Err e) x = Err e
+answer_if check x = result_and check (Ok x)
 
 -- what stands after checks that passed, or what stood before
 abbrev pub if_passed : {A B : Type 0} → Result A Fault → B → B → B
@@ -28,8 +26,7 @@ if_passed (Err e) after before = before
 
 -- what a test that finds something answers: what it found, of which P holds, or its fault
 abbrev pub Finds : {A : Type 0} → Result A Fault → Verdict → (A → Type 0) → Type 0
-Finds (Ok x) check P = (check ≡ Ok tt) × P x
-Finds (Err e) check P = check ≡ Err e
+Finds r check P = MatchResult r (λ x. (check ≡ Ok tt) × P x) (λ e. check ≡ Err e)
 
 -- the checks of 0, 1, .., n - 1 in this order
 unfoldable pub each_of : (ℕ → Verdict) → ℕ → Verdict

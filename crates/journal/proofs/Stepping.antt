@@ -3,6 +3,7 @@ use Rattle.std.proofs.Common.{◌≡◌, ◌≢◌, ℕ, ◌≤◌, min, Bool, t
 use Rattle.std.proofs.Math.Nat.{mul-le-mul_left}
 use Rattle.std.proofs.lemmas.List.{length-replicate}
 use Rattle.std.proofs.lemmas.List.FromFn.{length-map-range_with_len}
+use Rattle.std.specs.Result.{result_unwrap_or}
 use Rattle.forms.specs.Bounds.{most_groups}
 use Rattle.forms.specs.Bytes.{byte}
 use Rattle.forms.proofs.TermLaws.{opening_formed, length_groups}
@@ -29,7 +30,7 @@ use Rattle.session.specs.Views.{SessionState}
 use Rattle.journal.specs.Books.{Stepped, Brings, Unchanged}
 use Rattle.journal.specs.Exists.{Call, Handed, OwnSheet}
 use Rattle.journal.specs.Journals.{Entry, Journal}
-use Rattle.journal.specs.Sessions.{rows_given, exchange_at, rows_in, exchange_of, Holds, OpeningBegins, FramesGoOn, StopsChangeNothing, QuestionsGoOn}
+use Rattle.journal.specs.Sessions.{rows_given, exchange_at, exchange_of, Holds, OpeningBegins, FramesGoOn, StopsChangeNothing, QuestionsGoOn}
 use Rattle.session.specs.Runs.{Frame, told_at, state_after}
 use Rattle.journal.proofs.Opening.{sized, fitted}
 use Rattle.journal.proofs.Replay.{own_itself}
@@ -123,7 +124,7 @@ close_as_told : (v : Verdict) (rows : List Row) → close_told (verdict (answer_
 close_as_told (Ok u) rows = refl
 close_as_told (Err e) rows = refl
 
-rows_as_given : (v : Verdict) (rows : List Row) → rows_in (answer_if v rows) ≡ rows_given (close_told v) rows
+rows_as_given : (v : Verdict) (rows : List Row) → result_unwrap_or (answer_if v rows) [] ≡ rows_given (close_told v) rows
 rows_as_given (Ok u) rows = refl
 rows_as_given (Err e) rows = refl
 

@@ -1,9 +1,9 @@
 -- A journal: what one book was asked since it was opened, and what each call was answered. The newest entry stands first.
-use Rattle.std.specs.Prelude.{ℕ, zero, suc, ◌+◌, ◌-◌, ◌*◌, ◌/◌, Bool, false, cond, ◌&&◌, List, [], ◌∷◌, ℤ, Some, None, Ok, Err, Option, Result, is_ok, ◌==◌}
+use Rattle.std.specs.Prelude.{ℕ, zero, suc, ◌+◌, ◌-◌, ◌*◌, ◌/◌, Bool, false, cond, ◌&&◌, List, [], ◌∷◌, ℤ, Some, None, Option, Result, is_ok, ◌==◌}
+use Rattle.std.specs.Option.{option_or, option_map_or}
 use Rattle.forms.specs.declared.fault.Fault.{Fault}
 use Rattle.forms.specs.Calendar.{quarters}
 use Rattle.forms.specs.Checks.{Verdict}
-use Rattle.forms.specs.Slots.{Slot}
 use Rattle.message.specs.Form.{said}
 use Rattle.message.specs.Places.{stated}
 use Rattle.settlement.specs.declared.phase.Phase.{Phase}
@@ -105,12 +105,8 @@ closing_form day [] = []
 closing_form day (e ∷ j) = cond (closed_here e && closes j == day - 1) (form_in e) (closing_form day j)
 
 -- the message of group a that an entry has, if it was accepted
-abbrev pub message_if : {A : Type 0} → ℕ → List ℕ → Result A Fault → Option (List ℕ)
-message_if a form (Ok _) = cond ((said form).group == a + 1) (Some form) None
-message_if a form (Err _) = None
-
 abbrev pub message_in : ℕ → Entry → Option (List ℕ)
-message_in a (submit form sheet answer) = message_if a form answer
+message_in a (submit form sheet answer) = cond (is_ok answer && (said form).group == a + 1) (Some form) None
 message_in a (advance sheet answer) = None
 message_in a (close form sheet rows answer) = None
 message_in a (position sheet group quarter answer) = None
@@ -118,19 +114,11 @@ message_in a (trade sheet from to quarter answer) = None
 message_in a (standing group day answer) = None
 message_in a (total group answer) = None
 
-abbrev pub or_earlier : Option (List ℕ) → Option (List ℕ) → Option (List ℕ)
-or_earlier (Some form) earlier = Some form
-or_earlier None earlier = earlier
-
 -- the last message of group a that was accepted since the last close
 unfoldable pub last_message : ℕ → Journal → Option (List ℕ)
 last_message a [] = None
-last_message a (e ∷ j) = cond (closed_here e) None (or_earlier (message_in a e) (last_message a j))
-
-abbrev pub series_of : ℕ → Option (List ℕ) → Slot → ℕ → ℕ
-series_of q (Some form) slot t = stated q form slot t
-series_of q None slot t = 0
+last_message a (e ∷ j) = cond (closed_here e) None (option_or (message_in a e) (last_message a j))
 
 -- what each group last had accepted today: the series of its last message; any other series is zero
 unfoldable pub says : Journal → Statements
-says j a slot t = series_of (quarters (today j)) (last_message a j) slot t
+says j a slot t = option_map_or (λ form. stated (quarters (today j)) form slot t) (last_message a j) 0

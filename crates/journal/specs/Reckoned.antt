@@ -2,11 +2,10 @@
 use Rattle.std.specs.Prelude.{ℕ, ◌+◌, Bool, List, map, ℤ, Option}
 use Rattle.std.specs.List.{range_with_len}
 use Rattle.forms.specs.Calendar.{quarters}
-use Rattle.forms.specs.Closings.{feed_in, long_price, short_price}
 use Rattle.forms.specs.Figures.{Terms, group_count, figures_at}
 use Rattle.stage.specs.Rules.{Meaning}
-use Rattle.settlement.specs.Amounts.{is_marked, row_for, penalty, balance_amount}
-use Rattle.settlement.specs.Positions.{stated_open, confirmed_open, is_beyond, day_excess}
+use Rattle.settlement.specs.Amounts.{is_marked, row_for, penalty, balance_by}
+use Rattle.settlement.specs.Positions.{confirmed_open, beyond_by, excess_by}
 use Rattle.settlement.specs.Sums.{sumℕ, sumℤ}
 use Rattle.book.specs.Rows.{Row}
 use Rattle.book.specs.Tallies.{tally}
@@ -18,7 +17,7 @@ open_at terms j a day t = confirmed_open (says (at_cut_off day j)) (figures_at t
 
 -- E of a day, whether the day is marked, and the marks of days 1 to a day
 unfoldable pub excess_on : Terms → Journal → ℕ → ℕ → ℕ
-excess_on terms j a day = day_excess (says (at_cut_off day j)) (figures_at terms a) (group_count terms) a (quarters day)
+excess_on terms j a day = excess_by terms (says (at_cut_off day j)) a (quarters day)
 
 abbrev pub mark : Terms → Journal → ℕ → ℕ → Bool
 mark terms j a day = is_marked (excess_on terms j a day)
@@ -38,10 +37,7 @@ penalties m terms j a = sumℕ (λ k. penalty_on m terms j a (k + 1)) (cut_offs 
 
 -- the balance amount of a day, by its closing form, and of all closes
 unfoldable pub balance_on : Terms → Journal → ℕ → ℕ → ℤ
-balance_on terms j a day =
-    let q = quarters day in
-    let form = closing_form day j in
-    balance_amount (says (at_close day j)) (group_count terms) a (feed_in q form a) (long_price (group_count terms) q form) (short_price (group_count terms) q form) q
+balance_on terms j a day = balance_by (says (at_close day j)) (group_count terms) (closing_form day j) a (quarters day)
 
 unfoldable pub balance : Terms → Journal → ℕ → ℤ
 balance terms j a = sumℤ (λ k. balance_on terms j a (k + 1)) (closes j)
@@ -59,7 +55,7 @@ row m terms j day a = record {
 
 -- a quarter hour in which group a's open position, as it stands stated, is beyond the limit of the phase
 abbrev pub beyond : Terms → Journal → ℕ → ℕ → Bool
-beyond terms j a t = is_beyond (figures_at terms a) (phase j) (stated_open (says j) (figures_at terms a) (group_count terms) t a)
+beyond terms j a t = beyond_by terms (says j) (phase j) a t
 
 -- how many there are, and the first, from 1
 unfoldable pub count_beyond : Terms → Journal → ℕ → ℕ × Option ℕ

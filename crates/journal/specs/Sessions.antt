@@ -1,6 +1,6 @@
 -- What a session does is a journal of the book that it opened: so the theorem speaks of what a session does. A program serves at most so many groups.
-use Rattle.std.specs.Prelude.{◌≡◌, ◌≢◌, ℕ, Bool, true, false, cond, List, [], ◌∷◌, ◌++◌, map, length, is_some, Some, None, Ok, Err, Option, Result, ◌==◌}
-use Rattle.forms.specs.declared.fault.Fault.{Fault}
+use Rattle.std.specs.Prelude.{◌≡◌, ◌≢◌, ℕ, Bool, true, false, cond, List, [], ◌∷◌, ◌++◌, map, length, is_some, Some, None, Ok, Option, ◌==◌}
+use Rattle.std.specs.Result.{result_unwrap_or}
 use Rattle.forms.specs.Checks.{verdict}
 use Rattle.forms.specs.Figures.{group_count}
 use Rattle.forms.specs.Openings.{terms_of}
@@ -71,14 +71,10 @@ told_of (Entry.standing group day answer) = plainly (verdict answer)
 told_of (Entry.total group answer) = plainly (verdict answer)
 
 -- the rows of an answer
-abbrev pub rows_in : Result (List Row) Fault → List Row
-rows_in (Ok rows) = rows
-rows_in (Err e) = []
-
 abbrev pub rows_of : Entry → List Row
 rows_of (Entry.submit form sheet answer) = []
 rows_of (Entry.advance sheet answer) = []
-rows_of (Entry.close form sheet rows answer) = rows_in answer
+rows_of (Entry.close form sheet rows answer) = result_unwrap_or answer []
 rows_of (Entry.position sheet group quarter answer) = []
 rows_of (Entry.trade sheet from to quarter answer) = []
 rows_of (Entry.standing group day answer) = []

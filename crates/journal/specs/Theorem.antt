@@ -4,12 +4,12 @@ use Rattle.std.specs.Prelude.{◌≡◌, ℕ, ◌+◌, ◌-◌, ◌<◌, ◌≤�
 use Rattle.std.specs.List.{range_with_len}
 use Rattle.forms.specs.declared.fault.Fault.{Fault}
 use Rattle.forms.specs.Calendar.{year_days, quarters}
-use Rattle.forms.specs.Figures.{Terms, group_count, figures_at}
+use Rattle.forms.specs.Figures.{Terms, group_count}
 use Rattle.forms.specs.Openings.{terms_of}
 use Rattle.forms.specs.Slots.{out_to, in_from}
 use Rattle.message.specs.Form.{said}
 use Rattle.stage.specs.Marked.{Under}
-use Rattle.settlement.specs.Positions.{confirmed, stated_open, confirmed_open, net_purchases, no_farther}
+use Rattle.settlement.specs.Positions.{confirmed, net_purchases, no_farther, positions_by}
 use Rattle.settlement.specs.Sums.{sumℤ}
 use Rattle.journal.specs.Books.{JournalOf}
 use Rattle.journal.specs.Journals.{Entry, submit, advance, close, position, trade, standing, total, Journal, cut_offs, today, says}
@@ -25,10 +25,7 @@ abbrev pub Right : Meaning → Terms → Entry → Journal → Type 0
 Right m terms (submit form sheet answer) j = Is answer (count_beyond terms (submit form sheet answer ∷ j) ((said form).group - 1))
 Right m terms (advance sheet answer) j = Unit {0}
 Right m terms (close form sheet rows answer) j = Is answer (map (row m terms (close form sheet rows answer ∷ j) (today j)) (range_with_len 0 (group_count terms)))
-Right m terms (position sheet group quarter answer) j =
-    let a = group - 1 in
-    let t = quarter - 1 in
-    Is answer (stated_open (says j) (figures_at terms a) (group_count terms) t a, confirmed_open (says j) (figures_at terms a) (group_count terms) t a, net_purchases (says j) (group_count terms) t a)
+Right m terms (position sheet group quarter answer) j = Is answer (positions_by terms (says j) (group - 1) (quarter - 1))
 Right m terms (trade sheet from to quarter answer) j = Is answer (confirmed (says j) (quarter - 1) (from - 1) (to - 1))
 Right m terms (standing group day answer) j = Is answer (mark terms j (group - 1) day, stage m terms j (group - 1) day)
 Right m terms (total group answer) j = Is answer (penalties m terms j (group - 1), balance terms j (group - 1))

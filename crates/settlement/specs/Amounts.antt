@@ -1,5 +1,6 @@
 -- Marks, penalties and balance amounts. Money is whole cents; prices and rates are cents per MWh, a quarter hour's kW is 1 / 4000 MWh.
 use Rattle.std.specs.Prelude.{ℕ, suc, ◌+◌, ◌-◌, ◌*◌, ◌/◌, min, Bool, cond, List, length, ℤ, pos, negsuc, ◌+ℤ◌, ◌*ℤ◌, neg_ℤ, int_lt, nat_lt, slice_index_or}
+use Rattle.forms.specs.Closings.{feed_in, long_price, short_price}
 use Rattle.forms.specs.Figures.{RateFigures}
 use Rattle.settlement.specs.Sheets.{Statements}
 use Rattle.settlement.specs.Positions.{net_purchases}
@@ -49,3 +50,7 @@ day_cost S g a feed long short q = sumℤ (quarter_cost S g a feed long short) q
 -- the day's balance amount: added first, divided once
 abbrev pub balance_amount : Statements → ℕ → ℕ → (ℕ → ℤ) → (ℕ → ℤ) → (ℕ → ℤ) → ℕ → ℤ
 balance_amount S g a feed long short q = to_cents (day_cost S g a feed long short q)
+
+-- the same by a closing form
+abbrev pub balance_by : Statements → ℕ → List ℕ → ℕ → ℕ → ℤ
+balance_by S g form a q = balance_amount S g a (feed_in q form a) (long_price g q form) (short_price g q form) q

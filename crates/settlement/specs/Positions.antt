@@ -1,7 +1,7 @@
 -- Trades, check values, open positions and excesses, of what the groups have sent. Powers are whole kW.
 use Rattle.std.specs.Prelude.{ℕ, ◌-◌, min, Bool, cond, ℤ, pos, ◌+ℤ◌, ◌-ℤ◌, neg_ℤ, int_lt, nat_le, nat_lt, unsigned_abs}
 use Rattle.forms.specs.Slots.{out_to, in_from, cons}
-use Rattle.forms.specs.Figures.{GroupFigures}
+use Rattle.forms.specs.Figures.{GroupFigures, Terms, group_count, figures_at}
 use Rattle.settlement.specs.declared.phase.Phase.{Phase}
 use Rattle.settlement.specs.declared.phase.Phase.TheVariants.{Ahead, Near, After}
 use Rattle.settlement.specs.Sheets.{Statements}
@@ -63,3 +63,19 @@ no_farther o p = nat_le (unsigned_abs o) (unsigned_abs p)
 -- E: a day's sum of the excesses of the confirmed open position over the limit of the phase after
 unfoldable pub day_excess : Statements → GroupFigures → ℕ → ℕ → ℕ → ℕ
 day_excess S f g a q = sumℕ (λ t. excess f After (confirmed_open S f g t a)) q
+
+-- By the terms of a book, of group a: its stated and its confirmed open position and its net purchases in quarter hour t
+abbrev pub positions_by : Terms → Statements → ℕ → ℕ → ℤ × ℤ × ℤ
+positions_by terms S a t = (
+  stated_open S (figures_at terms a) (group_count terms) t a,
+  confirmed_open S (figures_at terms a) (group_count terms) t a,
+  net_purchases S (group_count terms) t a,
+)
+
+-- whether the stated one is beyond the limit of a phase
+abbrev pub beyond_by : Terms → Statements → Phase → ℕ → ℕ → Bool
+beyond_by terms S p a t = is_beyond (figures_at terms a) p (stated_open S (figures_at terms a) (group_count terms) t a)
+
+-- and E of a day of q quarter hours
+abbrev pub excess_by : Terms → Statements → ℕ → ℕ → ℕ
+excess_by terms S a q = day_excess S (figures_at terms a) (group_count terms) a q
