@@ -2,11 +2,11 @@
 //! journals of calls.
 #![tactic(auto)]
 
-use journal::nobody_bends;
+use journal::journals_are_sound;
 use serve::account::account;
 use std::io;
 
 fn main(rt: HostRuntime) -> io::Result<()> {
-    nobody_bends();
+    journals_are_sound();
     account(&rt)
 }

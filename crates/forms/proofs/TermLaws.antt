@@ -6,7 +6,7 @@ use Rattle.std.proofs.lemmas.Bool.Decides.{nat_tests}
 use Rattle.forms.specs.Bytes.{byte}
 use Rattle.forms.specs.Checks.{each_of}
 use Rattle.forms.specs.Figures.{GroupFigures, RateFigures}
-use Rattle.forms.specs.Openings.{OpeningFormed, sizes_check, rows_check, groups_told, rows_told, group_place, group_at, row_at, lawful_group, lawful_row, powers_within, plants_metered, rates_within, no_fall, group_check, row_check, LawfulTerms, terms_of}
+use Rattle.forms.specs.Openings.{OpeningFormed, sizes_check, rows_check, groups_told, rows_told, group_place, group_at, row_at, lawful_group, lawful_row, powers_within, plants_metered, rates_within, no_fall, group_row_check, row_check, LawfulTerms, terms_of}
 use Rattle.forms.proofs.Firsts.{each_passed, passed_left, passed_right, allowed}
 
 pub opening_formed : (s : List ℕ) → sizes_check s ≡ Ok tt → OpeningFormed s
@@ -54,12 +54,12 @@ module _ (s : List ℕ) (passed : rows_check s ≡ Ok tt) where
   group_lawful : (a : ℕ) → a < groups_told s → lawful_group (byte s (group_place a)) (group_at s a) ≡ true
   group_lawful a h =
       allowed (lawful_group (byte s (group_place a)) (group_at s a)) _
-      (each_passed (group_check s) (groups_told s) a (passed_left (each_of (group_check s) (groups_told s)) _ passed) h)
+      (each_passed (group_row_check s) (groups_told s) a (passed_left (each_of (group_row_check s) (groups_told s)) _ passed) h)
 
   row_lawful : (r : ℕ) → r < rows_told s → lawful_row s (groups_told s) r ≡ true
   row_lawful r h =
       allowed (lawful_row s (groups_told s) r) _
-      (each_passed (row_check s (groups_told s)) (rows_told s) r (passed_right (each_of (group_check s) (groups_told s)) _ passed) h)
+      (each_passed (row_check s (groups_told s)) (rows_told s) r (passed_right (each_of (group_row_check s) (groups_told s)) _ passed) h)
 
   powers_at : (a : ℕ) → a < groups_told s → powers_within (group_at s a) ≡ true
   powers_at a h = let e = group_lawful a h in grind (arith, nat_tests)

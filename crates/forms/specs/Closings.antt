@@ -12,11 +12,11 @@ abbrev pub closing_header : ℕ
 closing_header = 2
 
 -- the series of feed-ins and the two of prices
-abbrev pub series_count : ℕ → ℕ
-series_count g = g + 2
+abbrev pub closing_series : ℕ → ℕ
+closing_series g = g + 2
 
 abbrev pub closing_length : ℕ → ℕ → ℕ
-closing_length g q = closing_header + value_bytes * (q * series_count g)
+closing_length g q = closing_header + value_bytes * (q * closing_series g)
 
 -- the header is there, its sizes are those of the book and the day, and the length is what they give
 abbrev pub closing_sizes : ℕ → ℕ → List ℕ → Verdict
@@ -51,9 +51,9 @@ value_bound g i = cond (nat_lt i g) power_bound price_bound
 abbrev pub value_check : ℕ → ℕ → List ℕ → ℕ → ℕ → Verdict
 value_check g q s i t = refuse_if (nat_lt (value_bound g i) (unsigned_abs (closing_value q s i t))) (OutOfRange (i + 1) (t + 1))
 
-abbrev pub series_check : ℕ → ℕ → List ℕ → ℕ → Verdict
-series_check g q s i = each_of (value_check g q s i) q
+abbrev pub closing_series_check : ℕ → ℕ → List ℕ → ℕ → Verdict
+closing_series_check g q s i = each_of (value_check g q s i) q
 
 -- series by series, and in each quarter hour by quarter hour
 abbrev pub closing_check : ℕ → ℕ → List ℕ → Verdict
-closing_check g q s = each_of (series_check g q s) (series_count g)
+closing_check g q s = each_of (closing_series_check g q s) (closing_series g)

@@ -70,8 +70,8 @@ row_at s g r = record { fee = be32 s (row_place g r); rate = be32 s (row_place g
 abbrev pub lawful_group : ℕ → GroupFigures → Bool
 lawful_group flag f = nat_le flag 1 && (powers_within f && plants_metered f)
 
-abbrev pub group_check : List ℕ → ℕ → Verdict
-group_check s a = refuse_if (not (lawful_group (byte s (group_place a)) (group_at s a))) (UnlawfulGroup (a + 1))
+abbrev pub group_row_check : List ℕ → ℕ → Verdict
+group_row_check s a = refuse_if (not (lawful_group (byte s (group_place a)) (group_at s a))) (UnlawfulGroup (a + 1))
 
 -- tariff row r behind g groups: within the bounds, and from the second on no fall from the row before
 abbrev pub lawful_row : List ℕ → ℕ → ℕ → Bool
@@ -83,7 +83,7 @@ row_check s g r = refuse_if (not (lawful_row s g r)) (UnlawfulTariff (g + r + 1)
 
 -- every group row, then every tariff row
 abbrev pub rows_check : List ℕ → Verdict
-rows_check s = result_and (each_of (group_check s) (groups_told s)) (each_of (row_check s (groups_told s)) (rows_told s))
+rows_check s = result_and (each_of (group_row_check s) (groups_told s)) (each_of (row_check s (groups_told s)) (rows_told s))
 
 -- what the bytes of an opening form say, as values
 unfoldable pub terms_of : List ℕ → Terms

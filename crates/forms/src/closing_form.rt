@@ -2,7 +2,7 @@
 //! from 0 here; in a fault they count from 1.
 ghost use Rattle.std.specs.Prelude.{◌≡◌, ◌+◌, ◌<◌, Ok};
 ghost use Rattle.forms.specs.Checks.{each_of};
-ghost use Rattle.forms.specs.Closings.{ClosingFormed, series_count, closing_sizes, closing_value, feed_in, long_price, short_price, value_bound, value_check, series_check, closing_check};
+ghost use Rattle.forms.specs.Closings.{ClosingFormed, closing_series, closing_sizes, closing_value, feed_in, long_price, short_price, value_bound, value_check, closing_series_check, closing_check};
 
 use crate::bounds::{POWER_BOUND, PRICE_BOUND};
 use crate::bytes::signed32_at;
@@ -23,7 +23,7 @@ pub struct ClosingForm<'a> {
 impl<'a> ClosingForm<'a> {
     /// The number of series `i` at quarter hour `t`: feed-ins of the groups, long prices, short prices.
     fn value(&self, i: usize, t: usize) -> i32
-        requires { (i < series_count self.now.groups) × (t < self.now.quarters) }
+        requires { (i < closing_series self.now.groups) × (t < self.now.quarters) }
         ensures { result ≡ closing_value self.now.quarters self.now.bytes.now i t }
     {
         signed32_at(
@@ -58,7 +58,7 @@ impl<'a> ClosingForm<'a> {
 
     // the number of series `i` at quarter hour `t` is no farther from zero than the bound
     fn check_value(&self, i: usize, t: u8, bound: u32) -> Result<(), Fault>
-        requires within { (i < series_count self.now.groups) × (t < self.now.quarters) }
+        requires within { (i < closing_series self.now.groups) × (t < self.now.quarters) }
         requires bound { bound ≡ value_bound self.now.groups i }
         ensures { result ≡ value_check self.now.groups self.now.quarters self.now.bytes.now i t }
     {
@@ -74,9 +74,9 @@ impl<'a> ClosingForm<'a> {
     // every quarter hour of one series
     #[tactic(auto, using(crate::proofs::Firsts::each_in_order))]
     fn check_series(&self, i: usize, bound: u32) -> Result<(), Fault>
-        requires within { i < series_count self.now.groups }
+        requires within { i < closing_series self.now.groups }
         requires bound { bound ≡ value_bound self.now.groups i }
-        ensures { result ≡ series_check self.now.groups self.now.quarters self.now.bytes.now i }
+        ensures { result ≡ closing_series_check self.now.groups self.now.quarters self.now.bytes.now i }
     {
         in_order(self.quarters, |t| self.check_value(i, t, bound))
     }
@@ -84,7 +84,7 @@ impl<'a> ClosingForm<'a> {
     // the feed-ins of every group
     #[tactic(auto, using(crate::proofs::Firsts::each_in_order))]
     fn check_feed_ins(&self) -> Result<(), Fault>
-        ensures { result ≡ each_of (series_check self.now.groups self.now.quarters self.now.bytes.now) self.now.groups }
+        ensures { result ≡ each_of (closing_series_check self.now.groups self.now.quarters self.now.bytes.now) self.now.groups }
     {
         in_order(self.groups, |a| self.check_series(a as usize, POWER_BOUND))
     }

@@ -3,7 +3,7 @@
 ghost use Rattle.std.specs.Prelude.{◌≡◌, ◌<◌};
 ghost use Rattle.forms.specs.Checks.{each_of};
 ghost use Rattle.forms.specs.Figures.{figures_of, rates_of};
-ghost use Rattle.forms.specs.Openings.{groups_told, rows_told, powers_within, plants_metered, rates_within, no_fall, group_check, row_check, rows_check};
+ghost use Rattle.forms.specs.Openings.{groups_told, rows_told, powers_within, plants_metered, rates_within, no_fall, group_row_check, row_check, rows_check};
 
 use crate::bounds::{FEE_BOUND, POWER_BOUND, RATE_BOUND};
 use crate::checks::in_order;
@@ -49,7 +49,7 @@ impl TariffRow {
 impl<'a> OpeningForm<'a> {
     fn check_group(&self, a: usize) -> Result<(), Fault>
         requires { a < groups_told self.now.bytes.now }
-        ensures { result ≡ group_check self.now.bytes.now a }
+        ensures { result ≡ group_row_check self.now.bytes.now a }
     {
         // the byte itself, since all but 0 and 1 are unlawful
         let flag = self.bytes[OPENING_HEADER + GROUP_BYTES * a];
@@ -77,7 +77,7 @@ impl<'a> OpeningForm<'a> {
 
     #[tactic(auto, using(crate::proofs::Firsts::each_in_order))]
     fn check_groups(&self) -> Result<(), Fault>
-        ensures { result ≡ each_of (group_check self.now.bytes.now) (groups_told self.now.bytes.now) }
+        ensures { result ≡ each_of (group_row_check self.now.bytes.now) (groups_told self.now.bytes.now) }
     {
         in_order(self.groups(), |a| self.check_group(a as usize))
     }

@@ -18,16 +18,16 @@ use Rattle.std.proofs.lemmas.Iterator.Consumers.{YieldsList-at, YieldsList-from_
 use Rattle.std.proofs.lemmas.List.{map-append}
 use Rattle.std.proofs.lemmas.List.Concat.{flat_map_single}
 use Rattle.inquire.specs.declared.line.Line.{Line}
-use Rattle.inquire.specs.Entries.{Entry, entry_of, entries_in}
+use Rattle.inquire.specs.Entries.{TableEntry, entry_of, entries_in}
 use Rattle.inquire.specs.Table.{each_to}
 
 -- what `extend` adds at Ok
-pub extended : {T E : Type 0} {steps : T → Option Line → T → Type 0} {es : List Entry} {P : List Line → Type 0} {s : T} (old new : Vec Line Global) (r : Result (Unit {0}) E)
+pub extended : {T E : Type 0} {steps : T → Option Line → T → Type 0} {es : List TableEntry} {P : List Line → Type 0} {s : T} (old new : Vec Line Global) (r : Result (Unit {0}) E)
     → ((it : T) × (xs : List Line) × (it ≡ s) × P xs × MatchResult r (λ _. Drains steps it xs) (λ _. (t : T) × Yields steps it xs t))
     → ((xs : List Line) → P xs → vec_items new ≡ vec_items old ++ xs) → YieldsList steps entry_of s es → OnOk r (entries_in new ≡ entries_in old ++ es)
 extended old new r ran adds road =
     fact_from_extend entry_of r ran (λ it b. YieldsList-at b road)
-    (λ xs e h. ap (map entry_of) (adds xs h) ∙ map-append entry_of (vec_items old) xs ∙ ap (λ (zs : List Entry). entries_in old ++ zs) e)
+    (λ xs e h. ap (map entry_of) (adds xs h) ∙ map-append entry_of (vec_items old) xs ∙ ap (λ (zs : List TableEntry). entries_in old ++ zs) e)
 
 abbrev left : RangeInclusive ℕ → ℕ
 left s = range_inclusive_len (λ x y. y - x) (range_inclusive_start s) (range_inclusive_end s) (range_inclusive_exhausted s)
@@ -59,7 +59,7 @@ from_1_to {s} n h =
     let whole : left s ≡ n = ap (range_inclusive_len (λ x y. y - x) (range_inclusive_start s) (range_inclusive_end s)) h.2 ∙ omega (arith, h.0, h.1) in
     record { runs = subst (λ k. AlwaysYields nat_range_inclusive_steps (λ x. x) s (range_with_len k n)) h.0 (counts n s whole) }
 
-module _ {F : Type 0} (g : Mut F (ℕ × Unit {0}) Line) (h : ℕ → Entry) (f : F) (acts : (x : ℕ) (r : Line) (q : F) → Called g f (x, tt) r q → (q ≡ f) × (entry_of r ≡ h x)) where
+module _ {F : Type 0} (g : Mut F (ℕ × Unit {0}) Line) (h : ℕ → TableEntry) (f : F) (acts : (x : ℕ) (r : Line) (q : F) → Called g f (x, tt) r q → (q ≡ f) × (entry_of r ≡ h x)) where
   -- a line for each number
   pub line_each : {s : Map (RangeInclusive ℕ) F} (n : ℕ) → IsFrom1To n (map_source s) → map_callee s ≡ f
       → YieldsList (maps nat_range_inclusive_steps g) entry_of s (each_to n (λ a. h a ∷ []))

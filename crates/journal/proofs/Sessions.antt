@@ -18,8 +18,8 @@ use Rattle.book.specs.Rows.{Row}
 use Rattle.session.specs.declared.letter.Letter.TheVariants as letters
 use Rattle.session.specs.Letters.{code_of}
 use Rattle.session.specs.Replies.{Told, stop, refused, done, taken, closed}
-use Rattle.session.specs.Steps.{groups_served_for, rule_made, if_opened_for, by_rule, message_sent, phase_moved, day_ended}
-use Rattle.session.specs.Stops.{too_many_for}
+use Rattle.session.specs.Steps.{groups_served, rule_made, if_opened, by_rule, message_sent, phase_moved, day_ended}
+use Rattle.session.specs.Stops.{too_many}
 use Rattle.session.specs.Views.{SessionState}
 use Rattle.journal.specs.Journals.{Journal}
 use Rattle.journal.specs.Sessions.{rule_frame, opening_frame, is_stop, exchange_at, exchange_of, Holds, exchanges_from, Accepted, RunsAreJournals, SessionsAreJournals}
@@ -82,13 +82,13 @@ module _ (most : ℕ) (r : Option Meaning) (w : List ℕ) (rows : List Row) wher
   rule_opens_none opening (Ok m) h = nothing_is h
   rule_opens_none opening (Err e) h = nothing_is h
 
-  opens_if : (body : List ℕ) (v : Verdict) (place : Place Meaning) (sheet : List ℕ) → ByOpening true (if_opened_for most unopened body (v, place, sheet))
+  opens_if : (body : List ℕ) (v : Verdict) (place : Place Meaning) (sheet : List ℕ) → ByOpening true (if_opened most unopened body (v, place, sheet))
   opens_if body (Ok u) place sheet h = (refl, refl)
   opens_if body (Err e) place sheet h = nothing_is h
 
   form_opens : (body : List ℕ) (q : Option Meaning) → ByOpening true (by_rule most q unopened body)
   form_opens body (Some m) h =
-      let o = opened_by unopened.place m body (replicate (sheet_size (groups_served_for most body)) 0) in
+      let o = opened_by unopened.place m body (replicate (sheet_size (groups_served most body)) 0) in
       opens_if body o.0 o.1 o.2 h
   form_opens body None h = nothing_is h
 
@@ -96,7 +96,7 @@ module _ (most : ℕ) (r : Option Meaning) (w : List ℕ) (rows : List Row) wher
   by_opening true opening message advance closing long body h =
       either (ByOpening opening) (is_some r) (stop, unopened) (rule_made unopened (rule_asked body)) nothing_is (rule_opens_none opening (rule_asked body)) h
   by_opening false true message advance closing long body h =
-      either (ByOpening true) (not (is_some r) || (false || too_many_for most body)) (stop, unopened) (by_rule most r unopened body) nothing_is (form_opens body r) h
+      either (ByOpening true) (not (is_some r) || (false || too_many most body)) (stop, unopened) (by_rule most r unopened body) nothing_is (form_opens body r) h
   by_opening false false true advance closing long body h = nothing_is h
   by_opening false false false advance true long body h = nothing_is h
   by_opening false false false true false long body h = nothing_is h
@@ -145,15 +145,15 @@ module _ (most : ℕ) (place : Place Meaning) (w : List ℕ) (rows : List Row) (
   abbrev Stays : Outcome → Type 0
   Stays o = o.1.rule ≡ Some m
 
-  stays_open : (body : List ℕ) (v : Verdict) (place : Place Meaning) (sheet : List ℕ) → Stays (if_opened_for most ruled body (v, place, sheet))
+  stays_open : (body : List ℕ) (v : Verdict) (place : Place Meaning) (sheet : List ℕ) → Stays (if_opened most ruled body (v, place, sheet))
   stays_open body (Ok u) place sheet = refl
   stays_open body (Err e) place sheet = refl
 
   stays : (rule opening message advance closing long : Bool) (body : List ℕ) → Stays (by_letter ruled rule opening message advance closing long most body)
   stays true opening message advance closing long body = refl
   stays false true message advance closing long body =
-      let o = opened_by place m body (replicate (sheet_size (groups_served_for most body)) 0) in
-      either Stays (is_some place || too_many_for most body) (stop, ruled) (by_rule most (Some m) ruled body) refl (stays_open body o.0 o.1 o.2)
+      let o = opened_by place m body (replicate (sheet_size (groups_served most body)) 0) in
+      either Stays (is_some place || too_many most body) (stop, ruled) (by_rule most (Some m) ruled body) refl (stays_open body o.0 o.1 o.2)
   stays false false true advance closing long body = either Stays (not (is_some place)) (stop, ruled) (message_sent ruled body) refl refl
   stays false false false advance true long body =
       either Stays (not (is_some place)) (stop, ruled) (cond advance (phase_moved ruled) (day_ended ruled body)) refl (either Stays advance (phase_moved ruled) (day_ended ruled body) refl refl)

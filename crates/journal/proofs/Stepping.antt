@@ -24,8 +24,8 @@ use Rattle.book.specs.States.{State, size}
 use Rattle.session.specs.declared.letter.Letter.TheVariants as letters
 use Rattle.session.specs.Letters.{code_of}
 use Rattle.session.specs.Replies.{Told, stop, refused, done, taken, closed, plainly, message_told, close_told}
-use Rattle.session.specs.Steps.{groups_served_for, rule_made, if_opened_for, by_rule, message_sent, phase_moved, day_ended}
-use Rattle.session.specs.Stops.{stops_for, too_many_for}
+use Rattle.session.specs.Steps.{groups_served, rule_made, if_opened, by_rule, message_sent, phase_moved, day_ended}
+use Rattle.session.specs.Stops.{stops, too_many}
 use Rattle.session.specs.Views.{SessionState}
 use Rattle.journal.specs.Books.{Stepped, Brings, Unchanged}
 use Rattle.journal.specs.Exists.{Call, Handed, OwnSheet}
@@ -56,7 +56,7 @@ either P false o p h k = k
 abbrev pub by_letter : SessionState → Bool → Bool → Bool → Bool → Bool → Bool → ℕ → List ℕ → Outcome
 by_letter x rule opening message advance closing long most body =
     cond (cond rule (is_some x.rule)
-    (cond opening (not (is_some x.rule) || (is_some x.place || too_many_for most body))
+    (cond opening (not (is_some x.rule) || (is_some x.place || too_many most body))
     (cond (message || closing) (not (is_some x.place)) (cond advance (not (is_some x.place) || long) true)))) (stop, x)
     (cond rule (rule_made x (rule_asked body))
     (cond opening (by_rule most x.rule x body)
@@ -85,22 +85,22 @@ module _ (x : SessionState) where
   still_rule (Ok m) h = absurd (let z : ◌≡◌ {A = ℕ} 2 0 = ap number h in omega arith)
   still_rule (Err e) h = refl
 
-  still_opened : (most : ℕ) (body : List ℕ) (v : Verdict) (place : Place Meaning) (sheet : List ℕ) → Still (if_opened_for most x body (v, place, sheet))
+  still_opened : (most : ℕ) (body : List ℕ) (v : Verdict) (place : Place Meaning) (sheet : List ℕ) → Still (if_opened most x body (v, place, sheet))
   still_opened most body (Ok u) place sheet h = absurd (let z : ◌≡◌ {A = ℕ} 2 0 = ap number h in omega arith)
   still_opened most body (Err e) place sheet h = refl
 
   still_open : (most : ℕ) (body : List ℕ) (r : Option Meaning) → Still (by_rule most r x body)
   still_open most body (Some m) h =
-      let o = opened_by x.place m body (replicate (sheet_size (groups_served_for most body)) 0) in
+      let o = opened_by x.place m body (replicate (sheet_size (groups_served most body)) 0) in
       still_opened most body o.0 o.1 o.2 h
   still_open most body None h = refl
 
-  abbrev stops : ℕ → Frame → Bool
-  stops most f = stops_for most (is_some x.rule) (is_some x.place) f.letter f.body
+  abbrev stops_at : ℕ → Frame → Bool
+  stops_at most f = stops most (is_some x.rule) (is_some x.place) f.letter f.body
 
 pub stops_change_nothing : (most : ℕ) → StopsChangeNothing most
 stops_change_nothing most x f =
-    either (Still x) (stops x most f) (stop, x) _ (λ h. refl)
+    either (Still x) (stops_at x most f) (stop, x) _ (λ h. refl)
     (either (Still x) (f.letter == code_of letters.Rule) _ _ (still_rule x (rule_asked f.body))
     (either (Still x) (f.letter == code_of letters.Opening) _ _ (still_open x most f.body x.rule)
     (either (Still x) (f.letter == code_of letters.Message) _ _ (λ h. absurd (message_speaks (submits x.place x.sheet f.body).0 h))
@@ -246,10 +246,10 @@ questions_go_on m form j x h =
 -- an opening form that is accepted
 module _ (most : ℕ) (x : SessionState) (form : List ℕ) where
   abbrev sheet_made : List ℕ
-  sheet_made = replicate (sheet_size (groups_served_for most form)) 0
+  sheet_made = replicate (sheet_size (groups_served most form)) 0
 
   abbrev begun : Meaning → Verdict → Outcome
-  begun m v = if_opened_for most x form (v, if_passed v (Some (m, new_book (terms_of form))) x.place, if_passed v (replicate (length sheet_made) 0) sheet_made)
+  begun m v = if_opened most x form (v, if_passed v (Some (m, new_book (terms_of form))) x.place, if_passed v (replicate (length sheet_made) 0) sheet_made)
 
   passed_if_done : (m : Meaning) (v : Verdict) → (begun m v).0 ≡ done → v ≡ Ok tt
   passed_if_done m (Ok u) h = refl
@@ -261,11 +261,11 @@ module _ (most : ℕ) (x : SessionState) (form : List ℕ) where
   served_all false n l h = absurd (omega (arith, h, mul-le-mul_left n l))
 
   rows_made : (m : Meaning) → opened_by None m form sheet_made ≡ (Ok tt, Some (m, new_book (terms_of form)), replicate (length sheet_made) 0)
-      → length (replicate (groups_served_for most form) no_row) ≡ group_count (terms_of form)
+      → length (replicate (groups_served most form) no_row) ≡ group_count (terms_of form)
   rows_made m h =
       let some = (opening_formed form (sized m None form sheet_made (new_book (terms_of form)) (replicate (length sheet_made) 0) h)).groups_least in
-      let fits = sym (length-replicate {A = ℕ} (sheet_size (groups_served_for most form)) 0) ∙ fitted m None form sheet_made (new_book (terms_of form)) (replicate (length sheet_made) 0) h in
-      length-replicate {A = Row} (groups_served_for most form) no_row
+      let fits = sym (length-replicate {A = ℕ} (sheet_size (groups_served most form)) 0) ∙ fitted m None form sheet_made (new_book (terms_of form)) (replicate (length sheet_made) 0) h in
+      length-replicate {A = Row} (groups_served most form) no_row
       ∙ served_all (nat_lt 0 (length form) && nat_le (byte form 0) (min most most_groups)) (groups_told form) (omega (arith, some)) fits
       ∙ sym (length_groups form)
 
@@ -291,4 +291,4 @@ module _ (most : ℕ) (x : SessionState) (form : List ℕ) where
   begins_if false (Some m) ruled h = (m, ruled, begins m ruled h)
 
 pub opening_begins : (most : ℕ) → OpeningBegins most
-opening_begins most x form h = begins_if most x form (is_some x.place || too_many_for most form) x.rule refl h
+opening_begins most x form h = begins_if most x form (is_some x.place || too_many most form) x.rule refl h

@@ -9,7 +9,7 @@ use Rattle.journal.specs.Books.{Brings, JournalOf, Unchanged}
 use Rattle.journal.specs.Journals.{Journal, standing, total, cut_offs, says}
 use Rattle.journal.specs.Reckoned.{mark, stage, penalties, balance}
 use Rattle.stage.specs.Rules.{Meaning}
-use Rattle.journal.specs.Theorem.{Answers, Energy, MarksAlone, FartherNoCheaper, AskedNext, NobodyBends}
+use Rattle.journal.specs.Theorem.{Answers, Energy, MarksAlone, FartherNoCheaper, AskedNext, JournalsAreSound}
 use Rattle.journal.proofs.Answering.{standing_next, total_next}
 use Rattle.journal.proofs.Opening.{never_falls}
 use Rattle.journal.proofs.Parts.{stage_same, stage_no_less, penalties_no_less}
@@ -69,5 +69,5 @@ asked_next form m j (s, w, b) a there =
           (s, w, (s, w, b, (sym told, same s w))),
     )
 
-pub nobody_bends : NobodyBends
-nobody_bends form = (answers form, energy form, marks_alone form, farther_no_cheaper form, asked_next form)
+pub journals_are_sound : JournalsAreSound
+journals_are_sound form = (answers form, energy form, marks_alone form, farther_no_cheaper form, asked_next form)

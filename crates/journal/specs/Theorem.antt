@@ -90,5 +90,5 @@ AskedNext form =
     × JournalOf m form (total (a + 1) (Ok (penalties m (terms_of form) j a, balance (terms_of form) j a)) ∷ j)
 
 -- the whole, of every opening form
-abbrev pub NobodyBends : Type 0
-NobodyBends = (form : List ℕ) → Answers form × Energy form × MarksAlone form × FartherNoCheaper form × AskedNext form
+abbrev pub JournalsAreSound : Type 0
+JournalsAreSound = (form : List ℕ) → Answers form × Energy form × MarksAlone form × FartherNoCheaper form × AskedNext form

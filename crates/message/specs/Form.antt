@@ -19,8 +19,8 @@ abbrev pub head_bytes : ℕ
 head_bytes = 2
 
 -- the length of a message of n series, each with q values
-abbrev pub size : ℕ → ℕ → ℕ
-size q n = header_bytes + head_bytes * n + value_bytes * (n * q)
+abbrev pub message_size : ℕ → ℕ → ℕ
+message_size q n = header_bytes + head_bytes * n + value_bytes * (n * q)
 
 -- what the header says
 abbrev pub said : List ℕ → Header
@@ -31,12 +31,12 @@ abbrev pub header_of : ℕ → List ℕ → Result Header Fault
 header_of q s =
     cond (nat_lt (length s) header_bytes) (Err ShortForm)
     (cond (byte s 1 == q)
-    (cond (length s == size q (series_count s)) (Ok (said s)) (Err WrongLength))
+    (cond (length s == message_size q (series_count s)) (Ok (said s)) (Err WrongLength))
     (Err WrongSize))
 
 -- the length is what the sizes give
 pub record Formed (q : ℕ) (s : List ℕ) : Type 0 where
-  pub long : length s ≡ size q (series_count s)
+  pub long : length s ≡ message_size q (series_count s)
 
 -- where the head of series i begins; its kind and its counter
 abbrev head_start : ℕ → ℕ

@@ -3,7 +3,7 @@ use Rattle.std.proofs.Common.{ℕ, [], ◌∷◌, drop, refl, ap, ◌∙◌, inl
 use Rattle.std.specs.Prelude.{slice_index}
 use Rattle.session.specs.Frames.{frame_head}
 use Rattle.session.specs.Replies.{Told}
-use Rattle.session.specs.Steps.{stepped_for}
+use Rattle.session.specs.Steps.{stepped}
 use Rattle.session.specs.Views.{SessionState}
 use Rattle.serve.specs.Held.{Held}
 use Rattle.serve.specs.Taken.{TakesFrame, FramesMake}
@@ -20,6 +20,6 @@ frame_more most x y z reply held left made taken =
           let letter = slice_index frame 0 in
           let body = drop frame_head frame in (
             record { letter = letter; body = body } ∷ made.0,
-            ap (λ (p : Told × SessionState). p.1) steps.3 ∙ ap (λ s. (stepped_for most s letter body).1) made.1,
+            ap (λ (p : Told × SessionState). p.1) steps.3 ∙ ap (λ s. (stepped most s letter body).1) made.1,
           )
     ]

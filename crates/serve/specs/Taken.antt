@@ -4,7 +4,7 @@ use Rattle.std.specs.Io.KnownBytes.{Keeps, Consumes, IsAtEnd}
 use Rattle.session.specs.Frames.{announced, frame_head}
 use Rattle.session.specs.Replies.{Told, stop}
 use Rattle.session.specs.Runs.{Frame, session_from}
-use Rattle.session.specs.Steps.{stepped_for}
+use Rattle.session.specs.Steps.{stepped}
 use Rattle.session.specs.Views.{SessionState}
 use Rattle.serve.specs.Held.{Held, to_come}
 
@@ -16,7 +16,7 @@ IsFrame frame = (frame_head ≤ length frame) × (announced (take frame_head fra
 abbrev pub Steps : ℕ → SessionState → Told → SessionState → Held → Held → Type 0
 Steps most before reply after held left =
     (frame : List ℕ) × IsFrame frame × Consumes (to_come held) (to_come left) frame
-    × ((reply, after) ≡ stepped_for most before (slice_index frame 0) (drop frame_head frame))
+    × ((reply, after) ≡ stepped most before (slice_index frame 0) (drop frame_head frame))
 
 -- behind this head the input ends before the body does; where the head announces too much, nothing is said
 abbrev pub BodyIsCut : List ℕ → Held → Type 0

@@ -86,7 +86,7 @@ impl<R: Read + Drop, W: Write + Drop> Service<R, W> {
             return Ok(Some(Reply::Stop));
         };
         let body = &self.input.front(length)[FRAME_HEAD..];
-        let reply = self.session.step_for(self.heap, self.most, head[0], body)?;
+        let reply = self.session.step(self.heap, self.most, head[0], body)?;
         self.input.consume(length);
         Ok(Some(reply))
     }

@@ -1,7 +1,7 @@
 -- A session over frames. A program serves at most so many groups.
 use Rattle.std.specs.Prelude.{ℕ, List, [], ◌∷◌, None}
 use Rattle.session.specs.Replies.{Told}
-use Rattle.session.specs.Steps.{stepped_for}
+use Rattle.session.specs.Steps.{stepped}
 use Rattle.session.specs.Views.{SessionState}
 
 pub record Frame : Type 0 where
@@ -10,10 +10,10 @@ pub record Frame : Type 0 where
 
 -- what a session tells of a frame, and its state afterwards
 abbrev pub told_at : ℕ → SessionState → Frame → Told
-told_at most x f = (stepped_for most x f.letter f.body).0
+told_at most x f = (stepped most x f.letter f.body).0
 
 abbrev pub state_after : ℕ → SessionState → Frame → SessionState
-state_after most x f = (stepped_for most x f.letter f.body).1
+state_after most x f = (stepped most x f.letter f.body).1
 
 -- a session's state after frames, of which the newest stands first
 abbrev pub session_from : ℕ → SessionState → List Frame → SessionState

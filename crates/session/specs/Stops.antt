@@ -6,13 +6,13 @@ use Rattle.session.specs.declared.letter.Letter.TheVariants.{Rule, Opening, Mess
 use Rattle.session.specs.Letters.{code_of}
 
 -- an opening form for more groups than a program serves, which are at most so many, and no more than a book can have
-abbrev pub too_many_for : ℕ → List ℕ → Bool
-too_many_for most body = nat_lt 0 (length body) && (nat_le (most + 1) (byte body 0) && nat_le (byte body 0) most_groups)
+abbrev pub too_many : ℕ → List ℕ → Bool
+too_many most body = nat_lt 0 (length body) && (nat_le (most + 1) (byte body 0) && nat_le (byte body 0) most_groups)
 
 -- A rule form comes once, an opening form once and after it, and all others after that; an advance has no body. The letters are R, O, S, A, C.
-abbrev pub stops_for : ℕ → Bool → Bool → ℕ → List ℕ → Bool
-stops_for most ruled opened letter body =
+abbrev pub stops : ℕ → Bool → Bool → ℕ → List ℕ → Bool
+stops most ruled opened letter body =
     cond (letter == code_of Rule) ruled
-    (cond (letter == code_of Opening) (not ruled || (opened || too_many_for most body))
+    (cond (letter == code_of Opening) (not ruled || (opened || too_many most body))
     (cond (letter == code_of Message || letter == code_of Closing) (not opened)
     (cond (letter == code_of Advance) (not opened || nat_lt 0 (length body)) true)))

@@ -8,8 +8,8 @@ ghost use Rattle.session.specs.Letters.{code_of};
 ghost use Rattle.session.specs.declared.letter.Letter.TheVariants.{Opening};
 ghost use Rattle.session.specs.Replies.{told_by, told_in};
 ghost use Rattle.session.specs.Runs.{new_session};
-ghost use Rattle.session.specs.Steps.{groups_served_for, rule_made, by_rule, message_sent, phase_moved, day_ended, stepped_for};
-ghost use Rattle.session.specs.Stops.{stops_for, too_many_for};
+ghost use Rattle.session.specs.Steps.{groups_served, rule_made, by_rule, message_sent, phase_moved, day_ended, stepped};
+ghost use Rattle.session.specs.Stops.{stops, too_many};
 ghost use Rattle.session.specs.Views.{view_of};
 
 use crate::letter::Letter;
@@ -24,8 +24,8 @@ use stage::any_rule::rule;
 use std::alloc::{AllocError, Global};
 
 /// Whether an opening form is for more groups than a program serves, which are at most `most`.
-fn too_many_for(most: u8, body: &[u8]) -> bool
-    ensures { result ≡ too_many_for most body.now }
+fn too_many(most: u8, body: &[u8]) -> bool
+    ensures { result ≡ too_many most body.now }
 {
     body.first().is_some_and(|groups| *groups > most && usize::from(*groups) <= bounds::MOST_GROUPS)
 }
@@ -33,7 +33,7 @@ fn too_many_for(most: u8, body: &[u8]) -> bool
 /// The groups of an opening form, 0 where a program for at most `most` groups serves none such: the
 /// sheet made for it is then empty.
 fn groups_served(most: u8, body: &[u8]) -> usize
-    ensures value { result ≡ groups_served_for most body.now }
+    ensures value { result ≡ groups_served most body.now }
     ensures few { result ≤ most_groups }
 {
     body.first()
@@ -79,13 +79,13 @@ impl Session {
 
     /// Whether the frame ends the session.
     fn stops(&self, most: u8, letter: Letter, body: &[u8]) -> bool
-        ensures { result ≡ stops_for most (is_some (view_of self.now).rule) (is_some (view_of self.now).place) (code_of letter) body.now }
+        ensures { result ≡ stops most (is_some (view_of self.now).rule) (is_some (view_of self.now).place) (code_of letter) body.now }
     {
         let ruled = self.rule.is_some();
         let opened = self.book.is_open();
         match letter {
             Letter::Rule => ruled,
-            Letter::Opening => !ruled || opened || too_many_for(most, body),
+            Letter::Opening => !ruled || opened || too_many(most, body),
             Letter::Message | Letter::Closing => !opened,
             Letter::Advance => !opened || !body.is_empty(),
         }
@@ -146,14 +146,14 @@ impl Session {
     // Heap, bound and frame come from three places: a struct for them would be no plainer.
     /// Takes one frame, by its letter as it came, and answers it, for at most so many groups. Want of memory,
     /// met only by an opening form that does not end the session, changes nothing.
-    pub fn step_for(
+    pub fn step(
         &mut self,
         heap: Global,
         most: u8,
         letter: u8,
         body: &[u8],
     ) -> Result<Reply, AllocError>
-        ensures { MatchResult result (λ reply. (told_by reply, view_of self.new) ≡ stepped_for most (view_of self.old) letter body.now) (λ _. (letter ≡ code_of Opening) × (stops_for most (is_some (view_of self.old).rule) (is_some (view_of self.old).place) letter body.now ≡ false) × (view_of self.new ≡ view_of self.old)) }
+        ensures { MatchResult result (λ reply. (told_by reply, view_of self.new) ≡ stepped most (view_of self.old) letter body.now) (λ _. (letter ≡ code_of Opening) × (stops most (is_some (view_of self.old).rule) (is_some (view_of self.old).place) letter body.now ≡ false) × (view_of self.new ≡ view_of self.old)) }
     {
         let Ok(letter) = Letter::try_from(letter) else {
             return Ok(Reply::Stop);

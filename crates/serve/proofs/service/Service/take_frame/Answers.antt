@@ -6,7 +6,7 @@ use Rattle.std.proofs.lemmas.List.{take-take, take_all, length-take, length-take
 use Rattle.std.proofs.lemmas.Grind.{common_steps}
 use Rattle.session.specs.Frames.{announced, frame_head}
 use Rattle.session.specs.Replies.{Told, stop, told_by}
-use Rattle.session.specs.Steps.{stepped_for}
+use Rattle.session.specs.Steps.{stepped}
 use Rattle.session.specs.Views.{SessionState, view_of}
 use Rattle.serve.specs.Held.{Held, to_come}
 use Rattle.serve.specs.Taken.{Steps, Ends, BodyIsCut}
@@ -19,7 +19,7 @@ steps_by_front : (most : ℕ) (before after : SessionState) (reply : Told) (old 
     → frame_head ≤ length first.bytes → take (length first.bytes) whole.bytes ≡ first.bytes
     → head ≡ take frame_head first.bytes → announced head ≡ Some (n - frame_head) → frame_head ≤ n → n ≤ length whole.bytes
     → left ≡ record { bytes = drop n whole.bytes; rest = whole.rest }
-    → (reply, after) ≡ stepped_for most before (slice_index head 0) (drop frame_head (take n whole.bytes))
+    → (reply, after) ≡ stepped most before (slice_index head 0) (drop frame_head (take n whole.bytes))
     → Steps most before reply after old left
 steps_by_front most before after reply old first whole left head n kept_first kept_whole there kept is_head size low high rest step =
     let frame = take n whole.bytes in
@@ -34,7 +34,7 @@ steps_by_front most before after reply old first whole left head n kept_first ke
       (omega (arith, low, long), ap (λ l. announced l) heads ∙ size ∙ ap (λ k. Some (k - frame_head)) (sym long)),
       subst (λ h. Consumes (to_come old) (to_come h) frame) (sym rest)
           (consumed_front (to_come old) whole.rest whole.bytes frame (drop n whole.bytes) all (sym (take-append-drop n whole.bytes))),
-      step ∙ ap (λ k. stepped_for most before k (drop frame_head frame)) letter,
+      step ∙ ap (λ k. stepped most before k (drop frame_head frame)) letter,
     )
 
 pub returns-clause-step : goal.returns-clause-step
@@ -50,12 +50,12 @@ returns-clause-step g c =
     ap (λ s. view_of s) (c.in_ok-length.ensures.session ∙ c.in_ok-wait_for.ensures.session) in
     let step =
     c.in_ok-reply.ensures
-    ∙ ap (λ l. stepped_for whole.most (view_of whole.session) (slice_index head 0) l)
+    ∙ ap (λ l. stepped whole.most (view_of whole.session) (slice_index head 0) l)
     (take_all (length body - frame_head) (drop frame_head body) (omega (arith, length-drop frame_head body)))
-    ∙ ap (λ k. stepped_for k (view_of whole.session) (slice_index head 0) (drop frame_head body)) most
-    ∙ ap (λ v. stepped_for now.most v (slice_index head 0) (drop frame_head body)) session
-    ∙ ap (λ l. stepped_for now.most (view_of now.session) (slice_index head 0) (drop frame_head l)) c.front-2.ensures.value in
-    inr (steps_by_front now.most (view_of now.session) (view_of c.step_for.new.self) (told_by c.in_ok-reply.reply) now.input first.input whole.input
+    ∙ ap (λ k. stepped k (view_of whole.session) (slice_index head 0) (drop frame_head body)) most
+    ∙ ap (λ v. stepped now.most v (slice_index head 0) (drop frame_head body)) session
+    ∙ ap (λ l. stepped now.most (view_of now.session) (slice_index head 0) (drop frame_head l)) c.front-2.ensures.value in
+    inr (steps_by_front now.most (view_of now.session) (view_of c.step.new.self) (told_by c.in_ok-reply.reply) now.input first.input whole.input
     c.consume.new.self head c.in-Some.length c.in_ok-wait_for.ensures.none_lost c.in_ok-length.ensures.none_lost
     (grind (arith, common_steps)) c.in_ok-length.ensures.kept
     (c.copy_from_slice.ensures.after ∙ c.front.ensures.value) frame.0 frame.1 frame.2 c.consume.ensures step)
