@@ -2,3 +2,4 @@ pub mod Capacity
 pub mod Held
 pub mod Taken
 pub mod Printed
+pub mod Sessions

@@ -1,14 +1,15 @@
 //! A session between an input and an output.
-ghost use Rattle.std.specs.Prelude.{◌≡◌, ◌≢◌, ◌-◌, ◌++◌, ◌∷◌, ◌⊎◌, [], ◌<◌, ◌≤◌, length, map, take, false, Some, None, OnOk, IfOk, IfSome, IfNone, nat_le};
+ghost use Rattle.std.specs.Prelude.{◌≡◌, ◌-◌, ◌⊎◌, [], ◌<◌, ◌≤◌, length, map, take, false, Some, None, OnOk, IfOk, IfSome, IfNone, nat_le};
 ghost use Rattle.std.specs.Io.Buffered.{writer_inner, writer_buffer, writer_contents};
 ghost use Rattle.std.specs.Io.KnownBytes.{Appends, Keeps, IsAtEnd};
 ghost use Rattle.serve.specs.Capacity.{capacity};
 ghost use Rattle.serve.specs.Held.{to_come};
-ghost use Rattle.serve.specs.Printed.{row_lines};
-ghost use Rattle.serve.specs.Taken.{TakesFrame, BodyIsCut, FramesMake};
+ghost use Rattle.serve.specs.Printed.{row_lines, answer};
+ghost use Rattle.serve.specs.Sessions.{Serves, SessionLeft};
+ghost use Rattle.serve.specs.Taken.{TakesFrame, BodyIsCut};
 ghost use Rattle.book.specs.Rows.{row_of};
 ghost use Rattle.session.specs.Frames.{announced, frame_head};
-ghost use Rattle.session.specs.Replies.{told_by, line, closed};
+ghost use Rattle.session.specs.Replies.{told_by};
 ghost use Rattle.session.specs.Runs.{new_session};
 ghost use Rattle.session.specs.Views.{view_of};
 
@@ -51,10 +52,20 @@ impl<R: Read + Drop, W: Write + Drop> Service<R, W> {
     /// Takes frame after frame until one ends the session, or the input ends, and answers the session
     /// as the last frame left it.
     pub(crate) fn serve(mut self) -> io::Result<Session>
-        ensures { IfOk result (λ s. FramesMake self.most (view_of self.session) (view_of s)) }
+        ensures { IfOk result (λ s. SessionLeft self.most (view_of self.session) (view_of s) self.input) }
+    {
+        self.serve_frames()?;
+        Ok(self.session)
+    }
+
+    /// Takes frame after frame until one ends the session, or the input ends, and prints what each is
+    /// answered. All of it has gone out at the end.
+    fn serve_frames(&mut self) -> io::Result<()>
+        ensures frames { OnOk result (Serves self.old.most (view_of self.old.session) (view_of self.new.session) self.old.input self.new.input (writer_contents W.contents self.old.output) (writer_contents W.contents self.new.output)) }
+        ensures out { OnOk result (writer_buffer self.new.output ≡ []) }
     {
         // A loop that waits on input is written as a count, which no input reaches.
-        for _ in 0..u64::MAX {
+        for _turn in 0..u64::MAX {
             let Some(reply) = self.take_frame()? else {
                 break;
             };
@@ -63,15 +74,15 @@ impl<R: Read + Drop, W: Write + Drop> Service<R, W> {
                 break;
             }
         }
-        self.output.flush()?;
-        Ok(self.session)
+        self.output.flush()
     }
 
     /// Takes the next frame and answers the session's reply to it, or nothing where the input has ended.
     fn take_frame(&mut self) -> io::Result<Option<Reply>>
         ensures step { IfOk result (λ o. IfSome o (λ reply. TakesFrame self.old.most (view_of self.old.session) (told_by reply) (view_of self.new.session) self.old.input self.new.input)) }
         ensures none { IfOk result (λ o. IfNone o (self.new.session ≡ self.old.session)) }
-        ensures end { IfOk result (λ o. IfNone o (IsAtEnd (to_come self.old.input))) }
+        ensures end { IfOk result (λ o. IfNone o (IsAtEnd (to_come self.new.input))) }
+        ensures none_lost { IfOk result (λ o. IfNone o (Keeps (to_come self.old.input) (to_come self.new.input))) }
         ensures first { OnOk result ((self.new.input.rest ≡ self.old.input.rest) ⊎ (writer_buffer self.new.output ≡ [])) }
         ensures printed { Keeps (writer_contents W.contents self.old.output) (writer_contents W.contents self.new.output) }
         ensures most { self.new.most ≡ self.old.most }
@@ -136,8 +147,7 @@ impl<R: Read + Drop, W: Write + Drop> Service<R, W> {
 
     /// Prints a reply: its line, or the result rows of a close.
     fn print(&mut self, reply: Reply) -> io::Result<()>
-        ensures line { OnOk result (told_by reply ≢ closed → Appends (writer_contents W.contents self.old.output) (writer_contents W.contents self.new.output) (line (told_by reply) ++ 10 ∷ [])) }
-        ensures rows { OnOk result (told_by reply ≡ closed → Appends (writer_contents W.contents self.old.output) (writer_contents W.contents self.new.output) (row_lines (view_of self.old.session).rows)) }
+        ensures answer { OnOk result (Appends (writer_contents W.contents self.old.output) (writer_contents W.contents self.new.output) (answer (told_by reply) (view_of self.old.session))) }
         ensures input { self.new.input ≡ self.old.input }
         ensures session { self.new.session ≡ self.old.session }
         ensures most { self.new.most ≡ self.old.most }

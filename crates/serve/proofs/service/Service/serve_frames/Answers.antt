@@ -1,0 +1,84 @@
+use Rattle.std.proofs.Common.{subst, sym, ap, ◌∙◌, arith}
+use Rattle.std.proofs.lemmas.Result.{on_ok_weaker}
+use Rattle.std.proofs.KnownBytes.{Keeps-trans}
+use Rattle.std.specs.Io.Buffered.{writer_contents}
+use Rattle.std.specs.Io.KnownBytes.{Appends, Keeps}
+use Rattle.session.specs.Replies.{stop, told_by}
+use Rattle.session.specs.Views.{view_of}
+use Rattle.serve.specs.Printed.{answer}
+use Rattle.serve.specs.Sessions.{Serves}
+use Rattle.serve.specs.Taken.{TakesFrame}
+use Rattle.serve.proofs.Framing.{Made, turn_more, served_all, served_many, served_stop, not_stop, kept_before}
+use Rattle.serve.proofs.service.Service.serve_frames.Goals.{else-loop-turn-test, then-loop-turn-test+in_ok-reply+in_default, then-loop-turn-test+in_ok-reply+in-Some+in_ok-print+in-Stop}
+use Rattle.serve.proofs.service.Service.serve_frames.Goals as goal
+
+pub loop-turn-preserved : goal.loop-turn-preserved
+loop-turn-preserved g c =
+    let first = c.args.self.now in
+    let now = c.loop-turn.self in
+    let taken = c.take_frame.new.self in
+    let printed = c.print.new.self in
+    let reply = told_by c.in-Some.reply in
+    let i = c.loop-turn.invariant in
+    let step = rw c.in-Some.is at c.in_ok-reply.ensures.step in
+    let before = writer_contents g.W.Write.contents now.output in
+    let after = writer_contents g.W.Write.contents printed.output in
+    let out = kept_before before (writer_contents g.W.Write.contents taken.output) after (answer reply (view_of taken.session)) c.in_ok-reply.ensures.printed c.in_ok-print.ensures.answer in
+    let step = subst (λ n. TakesFrame n (view_of now.session) reply (view_of taken.session) now.input taken.input) i.0 step in
+    let more =
+    turn_more first.most c.loop-turn._turn i.1.0 (view_of first.session) (view_of now.session) (view_of taken.session) reply first.input now.input taken.input
+    (writer_contents g.W.Write.contents first.output) before after i.1.1 i.1.2 i.1.3 step (not_stop c.in-Some.reply c.in_default-reply.not-Stop) out in (
+      c.in_ok-print.ensures.most ∙ c.in_ok-reply.ensures.most ∙ i.0,
+      (
+        more.0,
+        more.1,
+        more.2,
+        subst (λ s. Made first.most more.0 (view_of first.session) (view_of s) first.input printed.input (writer_contents g.W.Write.contents first.output) after) (sym c.in_ok-print.ensures.session)
+            (subst (λ h. Made first.most more.0 (view_of first.session) (view_of taken.session) first.input h (writer_contents g.W.Write.contents first.output) after) (sym c.in_ok-print.ensures.input) more.3),
+      ),
+    )
+
+pub returns-clause-frames : goal.returns-clause-frames
+returns-clause-frames g c =
+    let first = c.args.self.now in
+    let now = c.loop-turn.self in
+    let i = c.loop-turn.invariant in
+    let most = first.most in
+    let old = writer_contents g.W.Write.contents first.output in
+    let before = writer_contents g.W.Write.contents now.output in
+    let after = writer_contents g.W.Write.contents c.flush.new.self in
+    on_ok_weaker c.flush.result
+    (λ flushed. elim c.loop-turn-test.branch [
+      | else-loop-turn-test w ↦
+          let out = subst (λ s. Keeps (writer_contents g.W.Write.contents s.output) after) w.self-is c.flush.ensures.bytes in
+          subst (λ s. Serves most (view_of first.session) (view_of s.session) first.input s.input old after) (sym w.self-is)
+          (served_many most i.1.0 (view_of first.session) (view_of now.session) first.input now.input old before after i.1.3 i.1.2
+          (omega (arith, i.1.1, w.loop-turn-test.false)) out)
+      | then-loop-turn-test+in_ok-reply+in_default w ↦
+          let taken = w.take_frame.new.self in
+          let out = subst (λ s. Keeps (writer_contents g.W.Write.contents s.output) after) w.self-is c.flush.ensures.bytes in
+          let same = rw w.in_default.is at w.in_ok-reply.ensures.none in
+          let end = rw w.in_default.is at w.in_ok-reply.ensures.end in
+          let kept = rw w.in_default.is at w.in_ok-reply.ensures.none_lost in
+          subst (λ s. Serves most (view_of first.session) (view_of s.session) first.input s.input old after) (sym w.self-is)
+          (subst (λ s. Serves most (view_of first.session) (view_of s) first.input taken.input old after) (sym same)
+          (served_all most i.1.0 (view_of first.session) (view_of now.session) first.input now.input taken.input old before after i.1.3 i.1.2 kept end
+          (Keeps-trans before (writer_contents g.W.Write.contents taken.output) after w.in_ok-reply.ensures.printed out)))
+      | then-loop-turn-test+in_ok-reply+in-Some+in_ok-print+in-Stop w ↦
+          let taken = w.take_frame.new.self in
+          let printed = w.print.new.self in
+          let out = subst (λ s. Keeps (writer_contents g.W.Write.contents s.output) after) w.self-is c.flush.ensures.bytes in
+          let is_stop = ap (λ r. told_by r) w.in-Stop.is in
+          let step = rw w.in-Some.is at w.in_ok-reply.ensures.step in
+          let step = subst (λ n. TakesFrame n (view_of now.session) (told_by w.in-Some.reply) (view_of taken.session) now.input taken.input) i.0 step in
+          let step = subst (λ t. TakesFrame most (view_of now.session) t (view_of taken.session) now.input taken.input) is_stop step in
+          let last = writer_contents g.W.Write.contents printed.output in
+          let shown =
+          kept_before before (writer_contents g.W.Write.contents taken.output) last (answer stop (view_of taken.session)) w.in_ok-reply.ensures.printed
+          (subst (λ t. Appends (writer_contents g.W.Write.contents taken.output) last (answer t (view_of taken.session))) is_stop w.in_ok-print.ensures.answer) in
+          subst (λ s. Serves most (view_of first.session) (view_of s.session) first.input s.input old after) (sym w.self-is)
+          (subst (λ s. Serves most (view_of first.session) (view_of s) first.input printed.input old after) (sym w.in_ok-print.ensures.session)
+          (subst (λ h. Serves most (view_of first.session) (view_of taken.session) first.input h old after) (sym w.in_ok-print.ensures.input)
+          (served_stop most i.1.0 (view_of first.session) (view_of now.session) (view_of taken.session) first.input now.input taken.input old before last after i.1.3 i.1.2 step shown out)))
+    ])
+    c.flush.ensures.ok
