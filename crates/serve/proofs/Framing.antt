@@ -85,10 +85,9 @@ served_all most frames x y held now left old mid new made goes kept end out = (
 )
 
 -- so many frames that the count of turns ends
-pub served_many : (most : ℕ) (frames : List (List ℕ)) (x y : SessionState) (held left : Held) (old mid new : Option (List ℕ))
-    → Made most frames x y held left old mid → GoesOn most x (map frame_of frames) → length frames ≡ 2 ^ 64 - 1
-    → Keeps mid new → Serves most x y held left old new
-served_many most frames x y held left old mid new made goes many out = (
+pub served_many : (most : ℕ) (frames : List (List ℕ)) (x y : SessionState) (held left : Held) (old new : Option (List ℕ))
+    → Made most frames x y held left old new → GoesOn most x (map frame_of frames) → length frames ≡ 2 ^ 64 - 1 → Serves most x y held left old new
+served_many most frames x y held left old new made goes many = (
   frames,
   counted_out,
   record {
@@ -97,14 +96,14 @@ served_many most frames x y held left old mid new made goes many out = (
     session = made.session;
     ended = (goes, length-map frames frame_of ∙ many);
   },
-  subst (Appends old new) (sym (append-nil (answers most x (map frame_of frames)))) (Appends-kept old mid new (answers most x (map frame_of frames)) made.printed out),
+  subst (Appends old new) (sym (append-nil (answers most x (map frame_of frames)))) made.printed,
 )
 
 -- a frame that is answered STOP, or that is cut short or too long
-pub served_stop : (most : ℕ) (frames : List (List ℕ)) (x y z : SessionState) (held now left : Held) (old mid last new : Option (List ℕ))
+pub served_stop : (most : ℕ) (frames : List (List ℕ)) (x y z : SessionState) (held now left : Held) (old mid new : Option (List ℕ))
     → Made most frames x y held now old mid → GoesOn most x (map frame_of frames) → TakesFrame most y stop z now left
-    → Appends mid last (answer stop z) → Keeps last new → Serves most x z held left old new
-served_stop most frames x y z held now left old mid last new made goes taken printed out =
+    → Appends mid new (answer stop z) → Serves most x z held left old new
+served_stop most frames x y z held now left old mid new made goes taken printed =
     let so_far = answers most x (map frame_of frames) in
     elim taken [
       | inl ends ↦ (
@@ -116,11 +115,10 @@ served_stop most frames x y z held now left old mid last new made goes taken pri
           session = ends.1 ∙ made.session;
           ended = (goes, ends.3);
         },
-        Appends-kept old last new (so_far ++ last_answer cut) (Appends-trans old mid last so_far (last_answer cut) made.printed printed) out,
+        Appends-trans old mid new so_far (last_answer cut) made.printed printed,
       )
       | inr s ↦
-          let more = made_more most frames x y z stop held now left old mid last made s printed in
-          let shown = answers most x (map frame_of (s.0 ∷ frames)) in (
+          let more = made_more most frames x y z stop held now left old mid new made s printed in (
             s.0 ∷ frames,
             stopped,
             record {
@@ -129,7 +127,7 @@ served_stop most frames x y z held now left old mid last new made goes taken pri
               session = more.session;
               ended = (told_more most frames x y z stop now left made.session s, goes);
             },
-            subst (Appends old new) (sym (append-nil shown)) (Appends-kept old last new shown more.printed out),
+            subst (Appends old new) (sym (append-nil (answers most x (map frame_of (s.0 ∷ frames))))) more.printed,
           )
     ]
 
@@ -147,3 +145,9 @@ kept_before None b c bs p q = tt
 kept_before (Some x) None c bs p q = absurd p
 kept_before (Some x) (Some y) None bs p q = absurd q
 kept_before (Some x) (Some y) (Some z) bs p q = q ∙ ap (λ l. l ++ bs) p
+
+-- what is printed stays so when it goes out
+pub serves_kept : (most : ℕ) (x y : SessionState) (held left : Held) (old mid new : Option (List ℕ)) → Serves most x y held left old mid → Keeps mid new
+    → Serves most x y held left old new
+serves_kept most x y held left old mid new s kept =
+    (s.0, s.1, s.2, Appends-kept old mid new (answers most x (map frame_of s.0) ++ last_answer s.1) s.3 kept)

@@ -60,9 +60,18 @@ impl<R: Read + Drop, W: Write + Drop> Service<R, W> {
 
     /// Takes frame after frame until one ends the session, or the input ends, and prints what each is
     /// answered. All of it has gone out at the end.
+    #[tactic(auto, using(crate::proofs::Framing::serves_kept))]
     fn serve_frames(&mut self) -> io::Result<()>
         ensures frames { OnOk result (Serves self.old.most (view_of self.old.session) (view_of self.new.session) self.old.input self.new.input (writer_contents W.contents self.old.output) (writer_contents W.contents self.new.output)) }
         ensures out { OnOk result (writer_buffer self.new.output ≡ []) }
+    {
+        self.answer_frames()?;
+        self.output.flush()
+    }
+
+    /// The same, where the last answers may still stand in the output's buffer.
+    fn answer_frames(&mut self) -> io::Result<()>
+        ensures { OnOk result (Serves self.old.most (view_of self.old.session) (view_of self.new.session) self.old.input self.new.input (writer_contents W.contents self.old.output) (writer_contents W.contents self.new.output)) }
     {
         // A loop that waits on input is written as a count, which no input reaches.
         for _turn in 0..u64::MAX {
@@ -74,7 +83,7 @@ impl<R: Read + Drop, W: Write + Drop> Service<R, W> {
                 break;
             }
         }
-        self.output.flush()
+        Ok(())
     }
 
     /// Takes the next frame and answers the session's reply to it, or nothing where the input has ended.

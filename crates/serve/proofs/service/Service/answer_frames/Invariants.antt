@@ -3,7 +3,7 @@ use Rattle.std.specs.Io.Buffered.{writer_contents}
 use Rattle.session.specs.Views.{view_of}
 use Rattle.serve.specs.Sessions.{GoesOn, frame_of}
 use Rattle.serve.proofs.Framing.{Made}
-use Rattle.serve.proofs.service.Service.serve_frames.Given as goal
+use Rattle.serve.proofs.service.Service.answer_frames.Given as goal
 
 -- so many frames were taken as there were turns, and none was answered STOP
 abbrev pub invariant-loop-turn : goal.invariant-loop-turn
