@@ -15,8 +15,8 @@ use Rattle.session.specs.Steps.{stepped}
 use Rattle.session.specs.Views.{SessionState}
 use Rattle.serve.specs.Held.{Held, to_come}
 use Rattle.serve.specs.Printed.{answer}
-use Rattle.serve.specs.Sessions.{all_taken, stopped, cut, counted_out, frame_of, bytes_of, answers, last_answer, GoesOn, Serves}
-use Rattle.serve.specs.Taken.{IsFrame, Steps, TakesFrame}
+use Rattle.serve.specs.Sessions.{all_taken, stopped, cut, counted_out, frame_of, bytes_of, answers, last_answer, GoesOn, Serves, SessionLeft}
+use Rattle.serve.specs.Taken.{IsFrame, Steps, TakesFrame, FramesMake}
 
 -- what frames that were taken have made of session, input and output
 pub record Made (most : ℕ) (frames : List (List ℕ)) (x y : SessionState) (held left : Held) (old new : Option (List ℕ)) : Type 0 where
@@ -151,3 +151,8 @@ pub serves_kept : (most : ℕ) (x y : SessionState) (held left : Held) (old mid 
     → Serves most x y held left old new
 serves_kept most x y held left old mid new s kept =
     (s.0, s.1, s.2, Appends-kept old mid new (answers most x (map frame_of s.0) ++ last_answer s.1) s.3 kept)
+
+-- a session that frames of an input left is one that frames make
+pub frames_make : (most n : ℕ) (x y z : SessionState) (held : Held) → n ≡ most → y ≡ x → SessionLeft n y z held → FramesMake most x z
+frames_make most n x y z held same_most same left =
+    (map frame_of left.0, left.3.session ∙ ap (λ m. session_from m y (map frame_of left.0)) same_most ∙ ap (λ v. session_from most v (map frame_of left.0)) same)

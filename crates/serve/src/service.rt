@@ -60,7 +60,6 @@ impl<R: Read + Drop, W: Write + Drop> Service<R, W> {
 
     /// Takes frame after frame until one ends the session, or the input ends, and prints what each is
     /// answered. All of it has gone out at the end.
-    #[tactic(auto, using(crate::proofs::Framing::serves_kept))]
     fn serve_frames(&mut self) -> io::Result<()>
         ensures frames { OnOk result (Serves self.old.most (view_of self.old.session) (view_of self.new.session) self.old.input self.new.input (writer_contents W.contents self.old.output) (writer_contents W.contents self.new.output)) }
         ensures out { OnOk result (writer_buffer self.new.output ≡ []) }
