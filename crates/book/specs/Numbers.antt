@@ -1,5 +1,6 @@
 -- The slot that a head names, by its number among a group's slots.
-use Rattle.std.specs.Prelude.{ℕ, Bool, false, ◌&&◌, Option, Some, None, ◌==◌}
+use Rattle.std.specs.Prelude.{ℕ, Bool, false, ◌&&◌, Option, ◌==◌}
+use Rattle.std.specs.Option.{option_map_or}
 use Rattle.forms.specs.Slots.{kind_of, counter_of}
 use Rattle.settlement.specs.Sheets.{slot_at}
 
@@ -9,5 +10,4 @@ is_named g kind counter n = kind == kind_of (slot_at g n) && counter == counter_
 
 -- the answer is the number n
 abbrev pub is_number : Option ℕ → ℕ → Bool
-is_number (Some m) n = m == n
-is_number None n = false
+is_number found n = option_map_or (λ m. m == n) found false

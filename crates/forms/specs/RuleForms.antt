@@ -9,14 +9,14 @@ use Rattle.forms.specs.Bytes.{byte, be16}
 use Rattle.forms.specs.Calendar.{year_days}
 
 -- the kinds
-abbrev pub rolling_kind : ℕ
+abbrev rolling_kind : ℕ
 rolling_kind = 1
 
-abbrev pub run_kind : ℕ
+abbrev run_kind : ℕ
 run_kind = 2
 
 -- the bytes of a rule form
-abbrev pub rule_length : ℕ
+abbrev rule_length : ℕ
 rule_length = 3
 
 -- a number of days, from 1 to as many as a book keeps

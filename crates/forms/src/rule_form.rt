@@ -10,10 +10,10 @@ use crate::fault::Fault;
 pub const RULE_FORM: usize = 3;
 
 /// The kind of the rolling rule.
-pub const ROLLING: u8 = 1;
+const ROLLING: u8 = 1;
 
 /// The kind of the run rule.
-pub const RUN: u8 = 2;
+const RUN: u8 = 2;
 
 /// A lawful rule form, by its kind and its number of days.
 #[derive(Clone, Copy)]
