@@ -83,7 +83,7 @@ impl<R: Read + Drop> InputBuffer<R> {
         self.bytes.copy_within(self.start..self.end, 0);
         self.end -= self.start;
         self.start = 0;
-        // How often has to be read is the input's to say.
+        // Each read but the last brings bytes, so this ends; how many reads it takes is the input's to say.
         while self.end < wanted {
             let n = read_after(&mut self.input, &mut self.bytes, self.end)?;
             if n == 0 {
