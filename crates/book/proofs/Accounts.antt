@@ -36,9 +36,6 @@ bounded_set f xs i v b l p h k =
     let kept = set_keeps (λ (n : ℕ). n ≤ b) (map f xs) i (f v) 0 (omega (arith, length-map xs f)) p h k in
     omega (arith, kept, ap (λ ys. get_or ys k 0) (map-set f xs i v))
 
-pub bounded_more : (f : GroupAccount → ℕ) (xs : List GroupAccount) (b c : ℕ) → b ≤ c → ((k : ℕ) → get_or (map f xs) k 0 ≤ b) → (k : ℕ) → get_or (map f xs) k 0 ≤ c
-bounded_more f xs b c l h k = omega (arith, h k)
-
 -- no account is past so many cut-offs and so many closed days
 abbrev pub Within : ℕ → ℕ → List GroupAccount → Type 0
 Within cuts closed xs =

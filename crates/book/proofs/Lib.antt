@@ -14,4 +14,3 @@ pub mod Powers
 pub mod RowLists
 pub mod Submitting
 pub mod Tariffs
-pub mod Verdicts

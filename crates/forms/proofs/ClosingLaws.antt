@@ -1,24 +1,17 @@
--- What is known of a closing form whose checks have passed, and which place a refusal names.
+-- What is known of a closing form whose checks have passed.
 use Rattle.std.proofs.Common.{◌≡◌, ℕ, ◌+◌, ◌<◌, ◌≤◌, List, nat_abs, Ok, arith}
 use Rattle.std.specs.Result.{result_and}
 use Rattle.std.proofs.lemmas.Bool.{ltb-false}
 use Rattle.std.proofs.lemmas.Bool.Decides.{nat_tests}
 use Rattle.forms.specs.Bounds.{power_bound, price_bound}
-use Rattle.forms.specs.Checks.{each_of, Earliest}
-use Rattle.forms.specs.Closings.{ClosingFormed, closing_series, closing_sizes, closing_value, feed_in, long_price, short_price, value_bound, value_check, closing_series_check, closing_check}
-use Rattle.forms.proofs.Firsts.{each_passed, each_two, unrefused, earliest_answers}
-
-pub closing_formed : (g q : ℕ) (s : List ℕ) → closing_sizes g q s ≡ Ok tt → ClosingFormed g q s
-closing_formed g q s e = record { long = grind (arith, nat_tests) }
+use Rattle.forms.specs.Checks.{each_of}
+use Rattle.forms.specs.Closings.{closing_series, closing_value, feed_in, long_price, short_price, value_bound, value_check, closing_series_check, closing_check}
+use Rattle.forms.proofs.Firsts.{each_passed, each_two, unrefused}
 
 -- the feed-ins of all groups, then the long prices, then the short ones
 pub closing_parts : (g q : ℕ) (s : List ℕ)
     → closing_check g q s ≡ result_and (each_of (closing_series_check g q s) g) (result_and (closing_series_check g q s g) (closing_series_check g q s (g + 1)))
 closing_parts g q s = each_two (closing_series_check g q s) g
-
--- a refusal names the earliest series, and in it the earliest quarter hour
-pub closing_earliest : (g q : ℕ) (s : List ℕ) → Earliest (value_check g q s) (closing_series g) q (closing_check g q s)
-closing_earliest g q s = earliest_answers (value_check g q s) (closing_series g) q
 
 module _ (g q : ℕ) (s : List ℕ) (passed : closing_check g q s ≡ Ok tt) where
   pub value_within : (i t : ℕ) → i < closing_series g → t < q → nat_abs (closing_value q s i t) ≤ value_bound g i

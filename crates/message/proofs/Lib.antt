@@ -4,4 +4,3 @@ pub mod Search
 pub mod SeriesLaws
 pub mod Spans
 pub mod Stated
-pub mod ValueLaws

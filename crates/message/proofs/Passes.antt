@@ -26,10 +26,6 @@ pub ok_more : (f : ℕ → Verdict) (n : ℕ) (b c : Bool) → b ≡ is_ok (each
 unfolding each_of
 ok_more f n b c p q = rw (add-one n) ((λ j. p j && q j) ∙ sym (both_ok (each_of f n) (f n)))
 
-pub ok_is : (r : Verdict) → true ≡ is_ok r → r ≡ Ok tt
-ok_is (Ok _) h = refl
-ok_is (Err e) h = cc
-
 pub refuse_ok : (b : Bool) (e : Fault) → not b ≡ is_ok (refuse_if b e)
 refuse_ok true e = refl
 refuse_ok false e = refl

@@ -1,12 +1,10 @@
 -- Where values stand, and that they stand within the message.
-use Rattle.std.proofs.Common.{◌≡◌, ℕ, zero, suc, ◌+◌, ◌*◌, ◌<◌, ◌≤◌, List, [], length, get_or, take, drop, Ok, ap, ◌∙◌, add_assoc, add-mul, refl, arith}
+use Rattle.std.proofs.Common.{◌≡◌, ℕ, zero, suc, ◌+◌, ◌*◌, ◌<◌, ◌≤◌, List, [], length, get_or, take, drop, ap, ◌∙◌, add_assoc, add-mul, refl, arith}
 use Rattle.std.specs.Simd.{first_chunks}
 use Rattle.std.proofs.lemmas.Nat.{mul-le}
 use Rattle.std.proofs.lemmas.List.{length-take-le, length-drop, drop-drop, get_or-take, get_or-drop}
 use Rattle.forms.specs.Bytes.{byte, be32}
-use Rattle.std.proofs.lemmas.Bool.Decides.{nat_tests}
-use Rattle.message.specs.declared.Header.{Header}
-use Rattle.message.specs.Form.{Formed, header_of, said, series_count, values_start, value_at, values_at}
+use Rattle.message.specs.Form.{Formed, series_count, values_start, value_at, values_at}
 
 -- a value by the place of its first byte
 pub value_from_start : (q : ℕ) (s : List ℕ) (i t : ℕ) → be32 s (values_start q s i + 4 * t) ≡ value_at q s i t
@@ -56,7 +54,3 @@ module _ (q : ℕ) (s : List ℕ) (i : ℕ) (formed : Formed q s) (there : i < s
   -- and are four bytes for each quarter hour
   pub length_values : length (values_at q s i) ≡ 4 * q
   length_values = length-take-le (4 * q) (drop (values_start q s i) s) (simp length-drop (omega (arith, values_end)))
-
--- a header that is answered says what the message says, and the message is formed
-pub header_formed : (q : ℕ) (s : List ℕ) (h : Header) → header_of q s ≡ Ok h → Formed q s × (h ≡ said s)
-header_formed q s h e = grind (arith, nat_tests)

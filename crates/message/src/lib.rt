@@ -66,13 +66,6 @@ impl<'a> Message<'a> {
         }
     }
 
-    /// How many quarter hours its day has.
-    pub fn quarters(&self) -> u8
-        ensures { result ≡ self.now.quarters }
-    {
-        self.quarters
-    }
-
     /// How many series the message has.
     pub fn count(&self) -> u8
         ensures { result ≡ series_count self.now.bytes.now }

@@ -1,9 +1,9 @@
 //! Bytes that may be a message.
-ghost use Rattle.std.specs.Prelude.{◌≡◌, IfOk, OnOk};
+ghost use Rattle.std.specs.Prelude.{◌≡◌, IfOk};
 ghost use Rattle.forms.specs.Checks.{verdict};
-ghost use Rattle.message.specs.Form.{Formed, header_of};
+ghost use Rattle.message.specs.Form.{header_of};
 
-use crate::{HEADER, Header, Message};
+use crate::{HEADER, Message};
 use forms::fault::Fault;
 
 /// Bytes that are to be read as a message for a day of `quarters` quarter hours.
@@ -44,14 +44,5 @@ impl<'a> MessageReader<'a> {
             bytes,
             quarters: self.quarters,
         })
-    }
-
-    /// The header, once the length is what its sizes give.
-    pub fn header(&self) -> Result<Header, Fault>
-        ensures value { result ≡ header_of self.now.quarters self.now.bytes.now }
-        ensures formed { OnOk result (Formed self.now.quarters self.now.bytes.now) }
-    {
-        let message = self.message()?;
-        Ok(message.header())
     }
 }
