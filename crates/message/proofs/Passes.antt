@@ -4,6 +4,8 @@ use Rattle.std.specs.Result.{result_and}
 use Rattle.std.proofs.lemmas.Bool.{and_left, and_right, cond-false}
 use Rattle.std.proofs.lemmas.Bool.Decides.{nat_tests}
 use Rattle.forms.specs.Bytes.{be32}
+use Rattle.forms.specs.declared.kind.Kind.TheVariants.{Out, In}
+use Rattle.forms.specs.Kinds.{number_of}
 use Rattle.forms.specs.Checks.{Verdict, refuse_if, each_of}
 use Rattle.forms.specs.declared.fault.Fault.{Fault}
 use Rattle.forms.proofs.Firsts.{each_none, each_all}
@@ -40,12 +42,12 @@ not_both x y = grind (arith, nat_tests)
 pub range_ok : (q : ℕ) (s : List ℕ) (i t v : ℕ) → v ≡ value_at q s i t → leb v power_bound ≡ is_ok (range_check q s i t)
 range_ok q s i t v e = ap (λ x. leb x power_bound) e ∙ leb_not (value_at q s i t) power_bound ∙ refuse_ok (ltb power_bound (value_at q s i t)) _
 
-pub opposed_ok : (q : ℕ) (s : List ℕ) (i opposite t x y : ℕ) → kind_at s i ≡ 1 → place_under s 2 (counter_at s i) ≡ Some opposite
+pub opposed_ok : (q : ℕ) (s : List ℕ) (i opposite t x y : ℕ) → kind_at s i ≡ number_of Out → place_under s (number_of In) (counter_at s i) ≡ Some opposite
     → x ≡ value_at q s i t → y ≡ value_at q s opposite t → (eqb x 0 || eqb y 0) ≡ is_ok (opposed_check q s i t)
 opposed_ok q s i opposite t x y out into e f =
     not_both x y
-    ∙ (λ j. not (eqb (sym out j) 1 && (ltb 0 (e j) && ltb 0 ((f ∙ sym (value_found q s 2 (counter_at s i) opposite t into)) j))))
-    ∙ refuse_ok (eqb (kind_at s i) 1 && (ltb 0 (value_at q s i t) && ltb 0 (value_under q s 2 (counter_at s i) t))) _
+    ∙ (λ j. not (eqb (sym out j) (number_of Out) && (ltb 0 (e j) && ltb 0 ((f ∙ sym (value_found q s (number_of In) (counter_at s i) opposite t into)) j))))
+    ∙ refuse_ok (eqb (kind_at s i) (number_of Out) && (ltb 0 (value_at q s i t) && ltb 0 (value_under q s (number_of In) (counter_at s i) t))) _
 
 pub refuse_none : (b : Bool) (e : Fault) → b ≡ false → refuse_if b e ≡ Ok tt
 refuse_none b e h = cond-false b (Err e) (Ok tt) h
@@ -57,11 +59,11 @@ module _ (q : ℕ) (s : List ℕ) (i : ℕ) where
   pub forecast_other : (metered : Bool) → is_forecast (kind_at s i) ≡ false → in_series q (forecast_check q metered s) i ≡ Ok tt
   forecast_other metered h = each_all _ q (λ t l. refuse_none _ _ (and_right (not metered) _ (and_left _ _ h)))
 
-  pub opposed_other : eqb (kind_at s i) 1 ≡ false → in_series q (opposed_check q s) i ≡ Ok tt
+  pub opposed_other : eqb (kind_at s i) (number_of Out) ≡ false → in_series q (opposed_check q s) i ≡ Ok tt
   opposed_other h = each_all _ q (λ t l. refuse_none _ _ (and_left _ _ h))
 
-  pub opposed_alone : place_under s 2 (counter_at s i) ≡ None → in_series q (opposed_check q s) i ≡ Ok tt
-  opposed_alone h = each_all _ q (λ t l. let none = value_missing q s 2 (counter_at s i) t h in grind (arith, nat_tests))
+  pub opposed_alone : place_under s (number_of In) (counter_at s i) ≡ None → in_series q (opposed_check q s) i ≡ Ok tt
+  opposed_alone h = each_all _ q (λ t l. let none = value_missing q s (number_of In) (counter_at s i) t h in grind (arith, nat_tests))
 
 -- what is left of the words of series i before quarter hour t is the words from t on
 pub record Left (q : ℕ) (s : List ℕ) (i t : ℕ) (words : List (List ℕ)) : Type 0 where

@@ -42,6 +42,17 @@ module _ (q : ℕ) (s : List ℕ) (i : ℕ) where
         ]
       ]
 
+  -- a forecast as read has a forecast's head
+  pub forecast_told : (place kind : ℕ) (bytes : List ℕ) → series_of q s i ≡ Some (forecast place kind bytes) → (place ≡ i + 1) × (is_forecast (kind_at s i) ≡ true)
+  forecast_told place kind bytes h = elim (either_told (forecast place kind bytes) h) [ inl e ↦ let d = e.1 in absurd cc | inr e ↦ (ap place_told e.1, e.0) ]
+
+  -- and a trade a trade's
+  pub trade_told : (place kind counter : ℕ) (bytes : List ℕ) → series_of q s i ≡ Some (trade place kind counter bytes) → (place ≡ i + 1) × (kind ≡ kind_at s i) × (counter ≡ counter_at s i)
+  trade_told place kind counter bytes h = elim (either_told (trade place kind counter bytes) h) [
+    | inl e ↦ let d = e.1 in (ap place_told e.1, cc, cc)
+    | inr e ↦ let d = e.1 in absurd cc
+  ]
+
   module _ (x : Told) (shown : series_of q s i ≡ Some x) where
     pub place_as_told : place_told x ≡ i + 1
     place_as_told = elim (either_told x shown) [ inl e ↦ ap place_told e.1 | inr e ↦ ap place_told e.1 ]

@@ -1,26 +1,18 @@
 //! Which values a message may have.
-ghost use Rattle.std.specs.Prelude.{◌≡◌, ◌<◌, nat_lt, is_ok, Some};
+ghost use Rattle.std.specs.Prelude.{◌≡◌, ◌<◌, ◌&&◌, nat_lt, is_ok, Some};
+ghost use Rattle.forms.specs.declared.kind.Kind.TheVariants.{Out, In};
 ghost use Rattle.forms.specs.Checks.{refuse_if};
+ghost use Rattle.forms.specs.Kinds.{number_of};
 ghost use Rattle.message.specs.Form.{series_count, kind_at, counter_at, value_at};
 ghost use Rattle.message.specs.Places.{place_under};
-ghost use Rattle.message.specs.Told.{is_forecast};
 ghost use Rattle.message.specs.Values.{in_series, in_message, range_check, forecast_check, opposed_check, values_check};
 
-use crate::{Head, Message, place};
+use crate::series::{Direction, Series};
+use crate::{Message, place};
 use forms::bounds::POWER_BOUND;
 use forms::checks::in_order;
 use forms::fault::Fault;
-use forms::kind::{IN, Kind, OUT};
-
-/// Whether a head's kind, which may be none that there is, is that of a forecast.
-fn is_forecast(kind: u8) -> bool
-    ensures { result ≡ is_forecast kind }
-{
-    matches!(
-        Kind::try_from(kind),
-        Ok(Kind::Cons | Kind::Prod | Kind::Pump)
-    )
-}
+use forms::kind::IN;
 
 impl<'a> Message<'a> {
     /// Whether no value of series `i` is above the bound, in one plain pass.
@@ -70,11 +62,14 @@ impl<'a> Message<'a> {
         requires { i < series_count self.now.bytes.now }
         ensures { result ≡ in_series self.now.quarters (forecast_check self.now.quarters metered self.now.bytes.now) i }
     {
-        if metered || !is_forecast(self.head(i).kind) {
+        if metered {
             return Ok(());
         }
+        let Some(Series::Forecast { place: series, .. }) = self.series(i) else {
+            return Ok(());
+        };
         in_order(self.quarters, |t| {
-            let (series, quarter) = (place(i), place(t));
+            let quarter = place(t);
             self.check_most(i, t, 0, Fault::UnmeteredForecast { series, quarter })
         })
     }
@@ -82,8 +77,8 @@ impl<'a> Message<'a> {
     /// Whether series `i`, a trade out, and its opposite are never above 0 at once, in one plain pass.
     fn is_unopposed(&self, i: u8, opposite: u8) -> bool
         requires there { (i < series_count self.now.bytes.now) × (opposite < series_count self.now.bytes.now) }
-        requires out { kind_at self.now.bytes.now i ≡ 1 }
-        requires into { place_under self.now.bytes.now 2 (counter_at self.now.bytes.now i) ≡ Some opposite }
+        requires out { kind_at self.now.bytes.now i ≡ number_of Out }
+        requires into { place_under self.now.bytes.now (number_of In) (counter_at self.now.bytes.now i) ≡ Some opposite }
         ensures { result ≡ is_ok (in_series self.now.quarters (opposed_check self.now.quarters self.now.bytes.now) i) }
     {
         // As in `is_within`.
@@ -94,20 +89,14 @@ impl<'a> Message<'a> {
         unopposed
     }
 
-    /// The trade out `i` and its opposite are not both above 0 at `t`. The out series is named.
-    #[tactic(auto, using(crate::proofs::Stated::value_found))]
-    fn check_unopposed(&self, i: u8, opposite: u8, t: u8) -> Result<(), Fault>
+    /// The series `i` and `opposite` are not both above 0 at `t`, or else this fault.
+    fn check_unopposed(&self, i: u8, opposite: u8, t: u8, fault: Fault) -> Result<(), Fault>
         requires there { (i < series_count self.now.bytes.now) × (opposite < series_count self.now.bytes.now) }
-        requires out { kind_at self.now.bytes.now i ≡ 1 }
-        requires into { place_under self.now.bytes.now 2 (counter_at self.now.bytes.now i) ≡ Some opposite }
         requires within { t < self.now.quarters }
-        ensures { result ≡ opposed_check self.now.quarters self.now.bytes.now i t }
+        ensures { result ≡ refuse_if (nat_lt 0 (value_at self.now.quarters self.now.bytes.now i t) && nat_lt 0 (value_at self.now.quarters self.now.bytes.now opposite t)) fault }
     {
         if self.value(i, t) > 0 && self.value(opposite, t) > 0 {
-            return Err(Fault::OpposedTrades {
-                series: place(i),
-                quarter: place(t),
-            });
+            return Err(fault);
         }
         Ok(())
     }
@@ -119,17 +108,27 @@ impl<'a> Message<'a> {
         requires { i < series_count self.now.bytes.now }
         ensures { result ≡ in_series self.now.quarters (opposed_check self.now.quarters self.now.bytes.now) i }
     {
-        let Head { kind, counter } = self.head(i);
-        if kind != OUT {
+        let Some(
+            Series::Trade {
+                direction: Direction::Out,
+                counter,
+                place: series,
+                ..
+            },
+        ) = self.series(i)
+        else {
             return Ok(());
-        }
+        };
         let Some(opposite) = self.find_head(IN, u16::from(counter)) else {
             return Ok(());
         };
         if self.is_unopposed(i, opposite) {
             return Ok(());
         }
-        in_order(self.quarters, |t| self.check_unopposed(i, opposite, t))
+        in_order(self.quarters, |t| {
+            let quarter = place(t);
+            self.check_unopposed(i, opposite, t, Fault::OpposedTrades { series, quarter })
+        })
     }
 
     /// No value of the message is above the bound.
