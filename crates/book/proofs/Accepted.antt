@@ -1,11 +1,12 @@
 -- What an accepted message leaves: the sender's series on the sheet are those of the message.
-use Rattle.std.proofs.Common.{◌≡◌, ℕ, zero, suc, ◌+◌, ◌*◌, ◌<◌, ◌≤◌, Bool, false, cond, eqb, ltb, List, length, get_or, pos, ◌-ℤ◌, is_some, Some, None, Option, sym, refl, ap, ◌∙◌, inl, inr, arith}
+use Rattle.std.proofs.Common.{◌≡◌, ℕ, zero, suc, ◌+◌, ◌*◌, ◌<◌, ◌≤◌, Bool, false, cond, eqb, ltb, List, length, get_or, pos, ◌-ℤ◌, sym, refl, ap, ◌∙◌, inl, inr, arith}
 use Rattle.std.specs.Option.{option_map}
 use Rattle.std.proofs.lemmas.List.FromFn.{get_or-map-range_with_len}
-use Rattle.std.proofs.lemmas.Bool.{cases_Bool, false≢true}
+use Rattle.std.proofs.lemmas.Bool.{cases_Bool}
 use Rattle.forms.specs.Figures.{GroupFigures}
 use Rattle.forms.specs.Slots.{Slot, out_to, in_from, cons, kind_of, counter_of}
 use Rattle.message.specs.Places.{first_of, or_at, place_of, sent_in, stated}
+use Rattle.message.proofs.Search.{none_from}
 use Rattle.message.proofs.Stated.{value_missing}
 use Rattle.settlement.specs.Positions.{stated_with, stated_open, excess}
 use Rattle.settlement.specs.Sheets.{Statements, Within, slots, slot_number, slot_place, sheet_size, on_sheet}
@@ -23,10 +24,6 @@ use Rattle.book.proofs.Flagging.{flag_own}
 -- a slot that the message does not have states 0
 missing_zero : (q : ℕ) (form : List ℕ) (s : Slot) (t : ℕ) → sent_in form s ≡ false → stated q form s t ≡ 0
 missing_zero q form s t e = value_missing q form (kind_of s) (counter_of s) t (none_from (place_of form s) e)
-  where
-    none_from : (o : Option ℕ) → is_some o ≡ false → o ≡ None
-    none_from None e = refl
-    none_from (Some x) e = absurd (false≢true (sym e))
 
 module _ (g q own : ℕ) (form sheet : List ℕ) (sent : List Bool) (mine : own < g) (fits : q ≤ 96) (room : length sheet ≡ sheet_size g) (flags : g * slots g ≤ length sent) where
   -- the sender's statements on the sheet afterwards

@@ -4,7 +4,6 @@ pub mod Cuts
 pub mod Kept
 pub mod Meant
 pub mod Messages
-pub mod Numbers
 pub mod Opens
 pub mod Queries
 pub mod Rows

@@ -5,8 +5,9 @@ use Rattle.std.specs.List.{range_with_len}
 use Rattle.forms.specs.declared.fault.Fault.{Fault}
 use Rattle.forms.specs.declared.fault.Fault.TheVariants.{WrongDay, WrongVersion, MissingSeries, GrowingPosition}
 use Rattle.forms.specs.Checks.{Verdict, verdict, refuse_if, each_of, answer_if, if_passed}
+use Rattle.forms.specs.Bytes.{be32}
 use Rattle.forms.specs.Slots.{Slot, cons, prod, pump}
-use Rattle.message.specs.Form.{Formed, header_of, said, value_at}
+use Rattle.message.specs.Form.{Formed, header_of, said}
 use Rattle.message.specs.Heads.{heads_check}
 use Rattle.message.specs.Values.{values_check}
 use Rattle.message.specs.Places.{first_of, sent_in, stated}
@@ -22,11 +23,12 @@ use Rattle.book.specs.Tallies.{tally}
 unfoldable pub by_message : ℕ → ℕ → List ℕ → Statements
 by_message own q form a slot t = cond (a == own) (stated q form slot t) 0
 
--- a message of group own that is read for the current day, of the right length
+-- a message of group own that is read for the current day, of the right length and with lawful heads
 pub record Read (s : State) (own q : ℕ) (form : List ℕ) : Type 0 where
   pub sender : own < size s
   pub quarters : q ≡ day_quarters s
   pub formed : Formed q form
+  pub heads : heads_check (size s) own form ≡ Ok tt
 
 -- the series of slot k was accepted today and is not in the message
 abbrev pub left_out : State → ℕ → List ℕ → ℕ → Bool
@@ -94,9 +96,9 @@ word_after g q own form sheet k =
 unfoldable pub sheet_after : ℕ → ℕ → ℕ → List ℕ → List ℕ → List ℕ
 sheet_after g q own form sheet = map (word_after g q own form sheet) (range_with_len 0 (length sheet))
 
--- one series in it: its first n values stand from `at` on, and no other word has changed
-unfoldable pub series_laid : ℕ → List ℕ → ℕ → ℕ → ℕ → List ℕ → ℕ → ℕ
-series_laid q form i at n sheet k = cond (nat_le at k && nat_lt k (at + n)) (value_at q form i (k - at)) (slice_index sheet k)
+-- one series in it: the first n values of its bytes stand from `at` on, and no other word has changed
+unfoldable pub series_laid : List ℕ → ℕ → ℕ → List ℕ → ℕ → ℕ
+series_laid bytes at n sheet k = cond (nat_le at k && nat_lt k (at + n)) (be32 bytes (4 * (k - at))) (slice_index sheet k)
 
 unfoldable pub flags_after : ℕ → ℕ → List ℕ → List Bool → List Bool
 flags_after g own form sent = map (sent_after g own form sent) (range_with_len 0 (length sent))

@@ -3,13 +3,13 @@ ghost use Rattle.std.specs.Prelude.{◌≡◌, ◌<◌, ◌&&◌, is_some};
 ghost use Rattle.forms.specs.Checks.{refuse_if};
 ghost use Rattle.forms.specs.declared.fault.Fault.TheVariants.{MissingSeries};
 ghost use Rattle.forms.specs.Slots.{cons, prod, pump};
-ghost use Rattle.message.specs.Places.{first_of, place_of, sent_in};
+ghost use Rattle.message.specs.Places.{first_of, sent_in};
 ghost use Rattle.settlement.specs.Sheets.{slots, slot_at};
 ghost use Rattle.book.specs.Messages.{left_out, incomplete};
 ghost use Rattle.book.specs.States.{state_of, size};
 
 use crate::sending::Sending;
-use crate::slots::places;
+use crate::slots::sent_slots;
 use forms::fault::Fault;
 use forms::slot::Slot;
 use settlement::sheet::slots_per_group;
@@ -24,14 +24,14 @@ impl Sending<'_, '_, '_> {
             && self.message.find(Slot::Pump).is_some()
     }
 
-    /// Whether the slot of this number was sent today, and the message has no series at a place for it.
-    fn leaves_out_at(&self, number: usize, place: Option<u8>) -> bool
+    /// Whether the slot of this number was sent today and is not sent again.
+    fn leaves_out_at(&self, number: usize, again: bool) -> bool
         requires there { number < slots (size (state_of self.now.day.ledger.now)) }
-        requires place { place ≡ place_of self.now.message.bytes.now (slot_at (size (state_of self.now.day.ledger.now)) number) }
+        requires again { again ≡ sent_in self.now.message.bytes.now (slot_at (size (state_of self.now.day.ledger.now)) number) }
         ensures { result ≡ left_out (state_of self.now.day.ledger.now) self.now.own self.now.message.bytes.now number }
     {
         let ledger = self.day.ledger;
-        place.is_none() && ledger.sent[ledger.place(self.own, number)]
+        !again && ledger.sent[ledger.place(self.own, number)]
     }
 
     /// Whether a series that the group has had accepted today is left out.
@@ -39,8 +39,8 @@ impl Sending<'_, '_, '_> {
         ensures { result ≡ is_some (first_of (left_out (state_of self.now.day.ledger.now) self.now.own self.now.message.bytes.now) (slots (size (state_of self.now.day.ledger.now)))) }
     {
         let groups = self.day.ledger.groups();
-        let places = places(groups, &self.message);
-        (0..slots_per_group(groups)).any(|number| self.leaves_out_at(number, places[number]))
+        let sent = sent_slots(groups, &self.message);
+        (0..slots_per_group(groups)).any(|number| self.leaves_out_at(number, sent[number]))
     }
 
     /// Refuses a message that leaves out a series accepted today, or a forecast of a metered group.

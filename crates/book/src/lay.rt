@@ -1,24 +1,24 @@
 //! An accepted message's series into their slots.
-ghost use Rattle.std.specs.Prelude.{◌≡◌, ℕ, ◌+◌, ◌*◌, ◌<◌, ◌≤◌, length, slice_index};
-ghost use Rattle.message.specs.Form.{series_count};
+ghost use Rattle.std.specs.Prelude.{◌≡◌, ℕ, ◌+◌, ◌/◌, ◌≤◌, length, slice_index};
+ghost use Rattle.message.specs.Told.{told, bytes_of};
 ghost use Rattle.settlement.specs.Sheets.{sheet_size};
 ghost use Rattle.book.specs.Messages.{Read, series_laid, sheet_after, flags_after};
 ghost use Rattle.book.specs.States.{state_of, size, day_quarters};
 
 use crate::ledger::{FLAGS, Ledger};
 use crate::sending::Sending;
-use crate::slots::places;
+use crate::slots::sent_slots;
 use message::Message;
-use settlement::sheet::{WORDS_PER_SLOT, slots_per_group};
+use message::series::Series;
+use settlement::sheet::{WORDS_PER_SLOT, slot_number, slots_per_group};
 
-/// Writes series `i` into the words of a slot that begins at `at`.
-fn lay_series(message: &Message<'_>, i: u8, at: usize, sheet: &mut [u32])
-    requires there { i < series_count message.now.bytes.now }
-    requires room { at + message.now.quarters ≤ length sheet.old }
-    ensures { (k : ℕ) → slice_index sheet.new k ≡ series_laid message.now.quarters message.now.bytes.now i at message.now.quarters sheet.old k }
+/// Writes a series into the words of a slot that begins at `at`.
+fn lay_series(series: &Series<'_>, at: usize, sheet: &mut [u32])
+    requires { at + length (bytes_of (told series.now)) / 4 ≤ length sheet.old }
+    ensures { (k : ℕ) → slice_index sheet.new k ≡ series_laid (bytes_of (told series.now)) at (length (bytes_of (told series.now)) / 4) sheet.old k }
 {
     // Through a `zip` with the words of the slot nothing is known of what was written.
-    for (t, word) in message.words(i).iter().enumerate() {
+    for (t, word) in series.words().iter().enumerate() {
         sheet[at + t] = u32::from_be_bytes(*word);
     }
 }
@@ -33,12 +33,11 @@ impl Ledger {
         ensures { sheet.new ≡ sheet_after (size (state_of self.now)) (day_quarters (state_of self.now)) own message.now.bytes.now sheet.old }
     {
         let groups = self.groups();
-        let places = places(groups, message);
-        // By its number: the place of a slot is reckoned.
-        for number in 0..slots_per_group(groups) {
-            if let Some(i) = places[number] {
+        for i in 0..message.count() {
+            if let Some(series) = message.series(i) {
+                let number = slot_number(groups, series.slot());
                 let at = self.place(own, number) * WORDS_PER_SLOT;
-                lay_series(message, i, at, sheet);
+                lay_series(&series, at, sheet);
             }
         }
     }
@@ -53,10 +52,10 @@ impl Sending<'_, '_, '_> {
         let first = ledger.place(self.own, 0);
         let groups = ledger.groups();
         let slots = slots_per_group(groups);
-        let places = places(groups, &self.message);
+        let now = sent_slots(groups, &self.message);
         let mut sent = ledger.sent;
         for (number, flag) in sent[first..first + slots].iter_mut().enumerate() {
-            *flag = places[number].is_some();
+            *flag = now[number];
         }
         sent
     }

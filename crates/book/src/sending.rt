@@ -5,7 +5,8 @@ ghost use Rattle.book.specs.States.{state_of};
 use crate::open_day::OpenDay;
 use message::Message;
 
-/// A message of the right length, with its version, and the place of the group that sends it, from 0.
+/// A message of the right length with lawful heads, its version, and the place of the group that sends
+/// it, from 0.
 #[derive(Clone, Copy)]
 pub struct Sending<'l, 'w, 'm> {
     pub(crate) day: OpenDay<'l, 'w>,

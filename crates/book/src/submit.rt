@@ -16,15 +16,13 @@ use message::{Header, MessageReader};
 use stage::rule::StageRule;
 
 impl Sending<'_, '_, '_> {
-    /// The tests of the message's series.
+    /// The tests of the message's series past their heads.
     fn check_series(&self) -> Result<(), Fault>
         ensures { result ≡ series_check (state_of self.now.day.ledger.now) self.now.day.sheet.now self.now.own self.now.message.bytes.now }
     {
-        let ledger = self.day.ledger;
-        let message = self.message;
-        message.check_heads(ledger.groups() as u8, self.own as u8)?;
+        let metered = self.day.ledger.figures(self.own).metered;
         self.check_complete()?;
-        message.check_values(ledger.figures(self.own).metered)?;
+        self.message.check_values(metered)?;
         self.check_growth()
     }
 }
@@ -57,6 +55,7 @@ impl Ledger {
         let day = self.open_day(sheet)?;
         let header = message.header();
         let own = self.check_sender(header)?;
+        message.check_heads(self.groups() as u8, own as u8)?;
         let sending = Sending {
             day,
             message,

@@ -1,5 +1,5 @@
 -- A search for the first that meets a test, by the library and by hand, and what it finds.
-use Rattle.std.proofs.Common.{◌≡◌, ℕ, zero, suc, ◌+◌, ◌<◌, Bool, true, false, cond, [], ◌∷◌, ◌++◌, Some, None, Option, refl, sym, subst, ap, ◌∙◌, inl, inr, add-zero, arith}
+use Rattle.std.proofs.Common.{◌≡◌, ℕ, zero, suc, ◌+◌, ◌<◌, Bool, true, false, cond, [], ◌∷◌, ◌++◌, is_some, Some, None, Option, refl, sym, subst, ap, ◌∙◌, inl, inr, add-zero, arith}
 use Rattle.std.specs.List.{range_with_len, find}
 use Rattle.std.specs.Option.{option_map, option_or}
 use Rattle.std.proofs.lemmas.List.Folds.{find-append}
@@ -28,6 +28,10 @@ find_first test (suc n) =
 pub found_itself : (o : Option ℕ) → option_map (λ (x : ℕ). x) o ≡ o
 found_itself None = refl
 found_itself (Some x) = refl
+
+pub none_from : (o : Option ℕ) → is_some o ≡ false → o ≡ None
+none_from None h = refl
+none_from (Some i) h = cc
 
 pub first_none : (test : ℕ → Bool) → first_of test 0 ≡ None
 unfolding first_of

@@ -4,9 +4,9 @@ use Rattle.std.proofs.lemmas.Bool.{cases_Bool}
 use Rattle.std.proofs.lemmas.Bool.Decides.{nat_tests}
 use Rattle.forms.specs.Bytes.{be32}
 use Rattle.message.specs.Form.{Formed, series_count, kind_at, counter_at, value_at, values_at}
-use Rattle.message.specs.Told.{Told, trade, forecast, is_trade, is_forecast, place_told, bytes_of, Names, slot_under, told_slot, series_of}
+use Rattle.message.specs.Told.{Told, trade, forecast, is_trade, is_forecast, bytes_of, Names, slot_under, told_slot, series_of}
 use Rattle.message.specs.Heads.{heads_check}
-use Rattle.message.proofs.Stated.{slot_at}
+use Rattle.message.proofs.Stated.{about}
 use Rattle.message.proofs.HeadLaws.{head_lawful}
 use Rattle.message.proofs.Spans.{value_of_bytes, length_values}
 
@@ -44,20 +44,17 @@ module _ (q : ℕ) (s : List ℕ) (i : ℕ) where
 
   -- a forecast as read has a forecast's head
   pub forecast_told : (place kind : ℕ) (bytes : List ℕ) → series_of q s i ≡ Some (forecast place kind bytes) → (place ≡ i + 1) × (is_forecast (kind_at s i) ≡ true)
-  forecast_told place kind bytes h = elim (either_told (forecast place kind bytes) h) [ inl e ↦ let d = e.1 in absurd cc | inr e ↦ (ap place_told e.1, e.0) ]
+  forecast_told place kind bytes h = elim (either_told (forecast place kind bytes) h) [ inl e ↦ let d = e.1 in absurd cc | inr e ↦ (cc, e.0) ]
 
   -- and a trade a trade's
   pub trade_told : (place kind counter : ℕ) (bytes : List ℕ) → series_of q s i ≡ Some (trade place kind counter bytes) → (place ≡ i + 1) × (kind ≡ kind_at s i) × (counter ≡ counter_at s i)
   trade_told place kind counter bytes h = elim (either_told (trade place kind counter bytes) h) [
-    | inl e ↦ let d = e.1 in (ap place_told e.1, cc, cc)
+    | inl e ↦ let d = e.1 in (cc, cc, cc)
     | inr e ↦ let d = e.1 in absurd cc
   ]
 
   module _ (x : Told) (shown : series_of q s i ≡ Some x) where
-    pub place_as_told : place_told x ≡ i + 1
-    place_as_told = elim (either_told x shown) [ inl e ↦ ap place_told e.1 | inr e ↦ ap place_told e.1 ]
-
-    pub bytes_told : bytes_of x ≡ values_at q s i
+    bytes_told : bytes_of x ≡ values_at q s i
     bytes_told = elim (either_told x shown) [ inl e ↦ ap bytes_of e.1 | inr e ↦ ap bytes_of e.1 ]
 
     -- so its value at t is that of series i
@@ -67,7 +64,7 @@ module _ (q : ℕ) (s : List ℕ) (i : ℕ) where
     pub length_told : Formed q s → i < series_count s → length (bytes_of x) ≡ 4 * q
     length_told f l = ap length bytes_told ∙ length_values q s i f l
 
-    pub slot_told : told_slot x ≡ slot_at s i
+    pub slot_told : told_slot x ≡ about s i
     slot_told = elim (either_told x shown) [ inl e ↦ ap told_slot e.1 | inr e ↦ ap told_slot e.1 ∙ forecast_slot (kind_at s i) (counter_at s i) e.0 ]
 
 -- Once the heads have passed, each series is there, and a trade names a group.

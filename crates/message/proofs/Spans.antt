@@ -37,14 +37,12 @@ chunk_at n (suc k) xs (suc i) d h =
     let e : n + i * n ≡ suc i * n = omega arith in
     chunk_at n k (drop n xs) i d (omega arith) ∙ ap (take n) (drop-drop (i * n) n xs) ∙ ap (λ m. take n (drop m xs)) e
 
--- a value out of the four bytes of it
-pub value_of_chunk : (q : ℕ) (s : List ℕ) (i k t : ℕ) → t < q → t < k
-    → be32 (get_or (first_chunks 4 k (values_at q s i)) t []) 0 ≡ value_at q s i t
-value_of_chunk q s i k t h l =
-    ap (λ w. be32 w 0) (chunk_at 4 k (values_at q s i) t [] l)
-    ∙ be32_part (values_at q s i) (t * 4) 4 0 (omega arith)
-    ∙ (let e : t * 4 + 0 ≡ 4 * t = omega arith in ap (be32 (values_at q s i)) e)
-    ∙ value_of_bytes q s i t h
+-- a number out of the four bytes of it
+pub be32_of_chunk : (s : List ℕ) (k t : ℕ) → t < k → be32 (get_or (first_chunks 4 k s) t []) 0 ≡ be32 s (4 * t)
+be32_of_chunk s k t l =
+    ap (λ w. be32 w 0) (chunk_at 4 k s t [] l)
+    ∙ be32_part s (t * 4) 4 0 (omega arith)
+    ∙ (let e : t * 4 + 0 ≡ 4 * t = omega arith in ap (be32 s) e)
 
 module _ (q : ℕ) (s : List ℕ) (i : ℕ) (formed : Formed q s) (there : i < series_count s) where
   -- the values of series i end within the message

@@ -1,5 +1,5 @@
 -- Which heads a message may have. Groups count from 0 here, the counters of heads from 1.
-use Rattle.std.specs.Prelude.{ℕ, ◌+◌, Bool, not, ◌&&◌, ◌||◌, List, is_some, ◌==◌}
+use Rattle.std.specs.Prelude.{◌≡◌, ℕ, ◌+◌, Bool, not, ◌&&◌, ◌||◌, List, is_some, Ok, ◌==◌}
 use Rattle.std.specs.Int.{is_in_range}
 use Rattle.std.specs.Result.{result_and}
 use Rattle.forms.specs.Checks.{Verdict, refuse_if, each_of}
@@ -30,3 +30,7 @@ once_check s i = refuse_if (repeats s i) (RepeatedHead (i + 1))
 -- every head is lawful, and then none stands twice
 abbrev pub heads_check : ℕ → ℕ → List ℕ → Verdict
 heads_check g own s = result_and (each_of (head_check g own s) (series_count s)) (each_of (once_check s) (series_count s))
+
+-- the heads have passed for one of the senders
+abbrev pub HeadsPassed : ℕ → List ℕ → Type 0
+HeadsPassed g s = (own : ℕ) × (heads_check g own s ≡ Ok tt)

@@ -24,10 +24,6 @@ pub data Told : Type 0 where
   trade : ℕ → ℕ → ℕ → List ℕ → Told
   forecast : ℕ → ℕ → List ℕ → Told
 
-abbrev pub place_told : Told → ℕ
-place_told (trade place kind counter bytes) = place
-place_told (forecast place kind bytes) = place
-
 abbrev pub bytes_of : Told → List ℕ
 bytes_of (trade place kind counter bytes) = bytes
 bytes_of (forecast place kind bytes) = bytes

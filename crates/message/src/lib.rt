@@ -5,7 +5,7 @@
 //! asked to be in range: a type for such a number would be no plainer.
 #![tactic(auto)]
 
-ghost use Rattle.std.specs.Prelude.{◌≡◌, ℕ, ◌+◌, ◌*◌, ◌<◌, ◌≤◌, length, slice_index_or, Ok, []};
+ghost use Rattle.std.specs.Prelude.{◌≡◌, ℕ, ◌+◌, ◌*◌, ◌/◌, ◌<◌, ◌≤◌, length, slice_index_or, Ok, []};
 ghost use Rattle.forms.specs.Bytes.{be32};
 ghost use Rattle.message.specs.Form.{Formed, series_count, said, header_of, head_of, value_at, values_at, values_start};
 
@@ -53,6 +53,15 @@ pub(crate) fn place(index: u8) -> u16
     u16::from(index) + 1
 }
 
+/// The values in these bytes, each in its four bytes.
+pub(crate) fn words_of(bytes: &[u8]) -> &[[u8; 4]]
+    ensures count { length result.now ≡ length bytes.now / 4 }
+    ensures each { (t : ℕ) → t < length result.now → be32 (slice_index_or result.now t []) 0 ≡ be32 bytes.now (4 * t) }
+{
+    let (words, _) = bytes.as_chunks();
+    words
+}
+
 impl<'a> Message<'a> {
     /// What the header says.
     pub fn header(&self) -> Header
@@ -74,7 +83,7 @@ impl<'a> Message<'a> {
     }
 
     /// The head of series `i`.
-    pub fn head(&self, i: u8) -> Head
+    pub(crate) fn head(&self, i: u8) -> Head
         requires { i < series_count self.now.bytes.now }
         ensures { result ≡ head_of self.now.bytes.now i }
     {
@@ -95,7 +104,7 @@ impl<'a> Message<'a> {
     }
 
     /// The value of series `i` at quarter hour `t`.
-    pub fn value(&self, i: u8, t: u8) -> u32
+    pub(crate) fn value(&self, i: u8, t: u8) -> u32
         requires there { i < series_count self.now.bytes.now }
         requires within { t < self.now.quarters }
         ensures { result ≡ value_at self.now.quarters self.now.bytes.now i t }
@@ -104,7 +113,7 @@ impl<'a> Message<'a> {
     }
 
     /// The bytes of the values of series `i`.
-    pub fn values(&self, i: u8) -> &'a [u8]
+    pub(crate) fn values(&self, i: u8) -> &'a [u8]
         requires { i < series_count self.now.bytes.now }
         ensures { result.now ≡ values_at self.now.quarters self.now.bytes.now i }
     {
@@ -118,7 +127,6 @@ impl<'a> Message<'a> {
         ensures count { length result.now ≡ self.now.quarters }
         ensures each { (t : ℕ) → t < self.now.quarters → be32 (slice_index_or result.now t []) 0 ≡ value_at self.now.quarters self.now.bytes.now i t }
     {
-        let (words, _) = self.values(i).as_chunks();
-        words
+        words_of(self.values(i))
     }
 }

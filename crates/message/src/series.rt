@@ -1,12 +1,11 @@
 //! A series as read: a part of the message, either a trade or a forecast.
-ghost use Rattle.std.specs.Prelude.{◌≡◌, ◌+◌, ◌*◌, ◌<◌, ◌≤◌, length};
+ghost use Rattle.std.specs.Prelude.{◌≡◌, ℕ, ◌*◌, ◌/◌, ◌<◌, length, slice_index_or, []};
 ghost use Rattle.forms.specs.Bytes.{be32};
 ghost use Rattle.forms.specs.Slots.{slot_of};
 ghost use Rattle.message.specs.Form.{series_count};
-ghost use Rattle.message.specs.Told.{told, Shows, Names, place_told, bytes_of, told_slot};
+ghost use Rattle.message.specs.Told.{told, Shows, Names, bytes_of, told_slot};
 
-use crate::{Head, Message, place};
-use forms::bytes::be32_at;
+use crate::{Head, Message, place, words_of};
 use forms::kind::Kind;
 use forms::slot::Slot;
 
@@ -86,31 +85,14 @@ impl<'a> Message<'a> {
 }
 
 impl<'a> Series<'a> {
-    // `place` and `values` read one field each of both forms: a function for both would be no plainer.
-    /// Its place in the message, from 1.
-    pub fn place(&self) -> u16
-        ensures { result ≡ place_told (told self.now) }
+    /// Its values, each in its four bytes.
+    pub fn words(&self) -> &'a [[u8; 4]]
+        ensures count { length result.now ≡ length (bytes_of (told self.now)) / 4 }
+        ensures each { (t : ℕ) → t < length result.now → be32 (slice_index_or result.now t []) 0 ≡ be32 (bytes_of (told self.now)) (4 * t) }
     {
         match self {
-            Series::Trade { place, .. } | Series::Forecast { place, .. } => *place,
+            Series::Trade { values, .. } | Series::Forecast { values, .. } => words_of(values),
         }
-    }
-
-    /// The bytes of its values.
-    pub fn values(&self) -> &'a [u8]
-        ensures { result.now ≡ bytes_of (told self.now) }
-    {
-        match self {
-            Series::Trade { values, .. } | Series::Forecast { values, .. } => *values,
-        }
-    }
-
-    /// Its value at quarter hour `t`.
-    pub fn at(&self, t: u8) -> u32
-        requires { 4 * t + 4 ≤ length (bytes_of (told self.now)) }
-        ensures { result ≡ be32 (bytes_of (told self.now)) (4 * t) }
-    {
-        be32_at(self.values(), 4 * t as usize)
     }
 
     /// What it is about. A trade's counter has to name a group.

@@ -24,6 +24,10 @@ slot_again g cons h = grind (arith, nat_tests)
 slot_again g prod h = grind (arith, nat_tests)
 slot_again g pump h = grind (arith, nat_tests)
 
+-- and the number of a number's slot
+pub number_again : (g n : ℕ) → n < slots g → slot_number g (slot_at g n) ≡ n
+number_again g n l = grind (arith, nat_tests)
+
 pub slots_apart : SlotsApart
 slots_apart g a b r s h k e =
     let w = slots g in

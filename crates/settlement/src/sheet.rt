@@ -27,8 +27,8 @@ pub fn sheet_size(groups: usize) -> usize
     groups * slots_per_group(groups) * WORDS_PER_SLOT
 }
 
-// The place of a slot among its group's.
-fn slot_number(groups: usize, slot: Slot) -> usize
+/// The place of a slot among its group's.
+pub fn slot_number(groups: usize, slot: Slot) -> usize
     requires { (groups ≤ most_groups) × (Within groups (slot_of slot)) }
     ensures value { result ≡ slot_number groups (slot_of slot) }
     ensures bound { result < slots groups }

@@ -1,8 +1,8 @@
-use Rattle.std.proofs.Common.{◌≡◌, ◌+◌, ◌-◌, ◌<◌, ◌≤◌, false, is_some, length, get_or, set, drop, ap, ◌∙◌, add-mul, arith}
+use Rattle.std.proofs.Common.{◌≡◌, ◌+◌, ◌-◌, ◌<◌, ◌≤◌, false, length, get_or, set, drop, ap, ◌∙◌, add-mul, arith}
 use Rattle.std.proofs.lemmas.List.{length-take-le, length-drop}
 use Rattle.std.proofs.lemmas.List.Edits.{fill_by_more}
 use Rattle.std.proofs.lemmas.Nat.{mul-le}
-use Rattle.message.specs.Places.{place_of, sent_in}
+use Rattle.message.specs.Places.{sent_in}
 use Rattle.settlement.specs.Sheets.{slots, slot_at}
 use Rattle.book.specs.States.{State, state_of, size}
 use Rattle.book.proofs.Days.{flags_enough}
@@ -17,8 +17,8 @@ loop-number-preserved c =
     let xs = c.loop-number.flag-items in
     let within : n < length xs = omega (arith, c.loop-number-test.true, c.loop-number.auto.flag-items) in
     let below : n < slots c.groups-groups.result = omega (arith, within, c.loop-number.auto.flag-items, c.slots_per_group-slots.ensures) in
-    let placed = c.places-places.ensures n below ∙ ap (λ m. place_of form (slot_at m n)) c.groups-groups.ensures.value in
-    let is : c.is_some.result ≡ sent_in form (slot_at g n) = c.is_some.ensures ∙ ap is_some placed in
+    let is : get_or c.sent_slots-now.result n false ≡ sent_in form (slot_at g n) =
+    c.sent_slots-now.ensures n below ∙ ap (λ m. sent_in form (slot_at m n)) c.groups-groups.ensures.value in
     λ k l. ap (λ v. get_or (set xs n v) k false) is ∙ fill_by_more (λ m. sent_in form (slot_at g m)) xs n false within c.loop-number.invariant k l
 
 pub returns : goal.returns
