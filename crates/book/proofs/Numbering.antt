@@ -5,7 +5,7 @@ use Rattle.std.proofs.lemmas.Bool.Decides.{nat_tests}
 use Rattle.forms.specs.Slots.{kind_of, counter_of}
 use Rattle.message.specs.Form.{series_count, kind_at, counter_at}
 use Rattle.message.specs.Heads.{lawful_head, heads_check}
-use Rattle.message.specs.Told.{Told, slot_under, told_slot, series_of}
+use Rattle.message.specs.Read.{SeriesRead, slot_under, slot_read, series_of}
 use Rattle.message.specs.Places.{first_of, or_at, head_is}
 use Rattle.message.proofs.HeadLaws.{head_lawful, about_head, about_first}
 use Rattle.message.proofs.Search.{first_found}
@@ -55,9 +55,9 @@ module _ (g own : ℕ) (s : List ℕ) (passed : heads_check g own s ≡ Ok tt) (
   ])
 
   -- what is asked and known of series i as read
-  module _ (q : ℕ) (x : Told) (shown : series_of q s i ≡ Some x) where
-    pub within_told : Within g (told_slot x)
+  module _ (q : ℕ) (x : SeriesRead) (shown : series_of q s i ≡ Some x) where
+    pub within_told : Within g (slot_read x)
     within_told = subst (Within g) (sym (slot_told q s i x shown)) within
 
-    pub number_told : slot_number g (told_slot x) ≡ number
+    pub number_told : slot_number g (slot_read x) ≡ number
     number_told = ap (slot_number g) (slot_told q s i x shown)

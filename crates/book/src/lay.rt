@@ -1,6 +1,6 @@
 //! An accepted message's series into their slots.
 ghost use Rattle.std.specs.Prelude.{◌≡◌, ℕ, ◌+◌, ◌/◌, ◌≤◌, length, slice_index};
-ghost use Rattle.message.specs.Told.{told, bytes_of};
+ghost use Rattle.message.specs.Read.{as_read, bytes_of};
 ghost use Rattle.settlement.specs.Sheets.{sheet_size};
 ghost use Rattle.book.specs.Messages.{Read, series_laid, sheet_after, flags_after};
 ghost use Rattle.book.specs.States.{state_of, size, day_quarters};
@@ -14,8 +14,8 @@ use settlement::sheet::{WORDS_PER_SLOT, slot_number, slots_per_group};
 
 /// Writes a series into the words of a slot that begins at `at`.
 fn lay_series(series: &Series<'_>, at: usize, sheet: &mut [u32])
-    requires { at + length (bytes_of (told series.now)) / 4 ≤ length sheet.old }
-    ensures { (k : ℕ) → slice_index sheet.new k ≡ series_laid (bytes_of (told series.now)) at (length (bytes_of (told series.now)) / 4) sheet.old k }
+    requires { at + length (bytes_of (as_read series.now)) / 4 ≤ length sheet.old }
+    ensures { (k : ℕ) → slice_index sheet.new k ≡ series_laid (bytes_of (as_read series.now)) at (length (bytes_of (as_read series.now)) / 4) sheet.old k }
 {
     // Through a `zip` with the words of the slot nothing is known of what was written.
     for (t, word) in series.words().iter().enumerate() {

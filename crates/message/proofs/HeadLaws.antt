@@ -7,7 +7,7 @@ use Rattle.forms.specs.Slots.{kind_of, counter_of}
 use Rattle.forms.specs.declared.fault.Fault.TheVariants.{UnlawfulHead, RepeatedHead}
 use Rattle.forms.proofs.Firsts.{each_passed, passed_left, passed_right, unrefused, allowed}
 use Rattle.message.specs.Form.{series_count, kind_at, counter_at, value_at}
-use Rattle.message.specs.Told.{slot_under}
+use Rattle.message.specs.Read.{slot_under}
 use Rattle.message.specs.Places.{first_of, head_is, place_under, place_of, stated}
 use Rattle.message.specs.Heads.{lawful_head, head_check, repeats, once_check, heads_check}
 use Rattle.message.proofs.Search.{none_from, first_found}

@@ -11,7 +11,7 @@ use Rattle.forms.specs.declared.fault.Fault.{Fault}
 use Rattle.forms.proofs.Firsts.{each_none, each_all}
 use Rattle.forms.specs.Bounds.{power_bound}
 use Rattle.message.specs.Form.{kind_at, counter_at, value_at}
-use Rattle.message.specs.Told.{is_forecast}
+use Rattle.message.specs.Read.{is_forecast}
 use Rattle.message.specs.Places.{place_under, value_under}
 use Rattle.message.specs.Values.{in_series, range_check, forecast_check, opposed_check}
 use Rattle.message.proofs.Stated.{value_found, value_missing}

@@ -4,7 +4,7 @@ use Rattle.std.proofs.lemmas.Bool.{cases_Bool}
 use Rattle.std.proofs.lemmas.Bool.Decides.{nat_tests}
 use Rattle.forms.specs.Bytes.{be32}
 use Rattle.message.specs.Form.{Formed, series_count, kind_at, counter_at, value_at, values_at}
-use Rattle.message.specs.Told.{Told, trade, forecast, is_trade, is_forecast, bytes_of, Names, slot_under, told_slot, series_of}
+use Rattle.message.specs.Read.{SeriesRead, trade, forecast, is_trade, is_forecast, bytes_of, Names, slot_under, slot_read, series_of}
 use Rattle.message.specs.Heads.{heads_check}
 use Rattle.message.proofs.Stated.{about}
 use Rattle.message.proofs.HeadLaws.{head_lawful}
@@ -15,10 +15,10 @@ forecast_slot : (kind counter : ℕ) → is_forecast kind ≡ true → slot_unde
 forecast_slot kind counter h = grind (arith, nat_tests)
 
 module _ (q : ℕ) (s : List ℕ) (i : ℕ) where
-  abbrev as-trade : Told
+  abbrev as-trade : SeriesRead
   as-trade = trade (i + 1) (kind_at s i) (counter_at s i) (values_at q s i)
 
-  abbrev as-forecast : Told
+  abbrev as-forecast : SeriesRead
   as-forecast = forecast (i + 1) (kind_at s i) (values_at q s i)
 
   series_trade : is_trade (kind_at s i) ≡ true → series_of q s i ≡ Some as-trade
@@ -31,7 +31,7 @@ module _ (q : ℕ) (s : List ℕ) (i : ℕ) where
   series_none h k = rw (h, k) refl
 
   -- a series as read is the trade or the forecast that its head says
-  either_told : (x : Told) → series_of q s i ≡ Some x
+  either_told : (x : SeriesRead) → series_of q s i ≡ Some x
       → ((is_trade (kind_at s i) ≡ true) × (x ≡ as-trade)) ⊎ ((is_forecast (kind_at s i) ≡ true) × (x ≡ as-forecast))
   either_told x h =
       elim (cases_Bool (is_trade (kind_at s i))) [
@@ -53,7 +53,7 @@ module _ (q : ℕ) (s : List ℕ) (i : ℕ) where
     | inr e ↦ let d = e.1 in absurd cc
   ]
 
-  module _ (x : Told) (shown : series_of q s i ≡ Some x) where
+  module _ (x : SeriesRead) (shown : series_of q s i ≡ Some x) where
     bytes_told : bytes_of x ≡ values_at q s i
     bytes_told = elim (either_told x shown) [ inl e ↦ ap bytes_of e.1 | inr e ↦ ap bytes_of e.1 ]
 
@@ -64,8 +64,8 @@ module _ (q : ℕ) (s : List ℕ) (i : ℕ) where
     pub length_told : Formed q s → i < series_count s → length (bytes_of x) ≡ 4 * q
     length_told f l = ap length bytes_told ∙ length_values q s i f l
 
-    pub slot_told : told_slot x ≡ about s i
-    slot_told = elim (either_told x shown) [ inl e ↦ ap told_slot e.1 | inr e ↦ ap told_slot e.1 ∙ forecast_slot (kind_at s i) (counter_at s i) e.0 ]
+    pub slot_told : slot_read x ≡ about s i
+    slot_told = elim (either_told x shown) [ inl e ↦ ap slot_read e.1 | inr e ↦ ap slot_read e.1 ∙ forecast_slot (kind_at s i) (counter_at s i) e.0 ]
 
 -- Once the heads have passed, each series is there, and a trade names a group.
 module _ (g own q : ℕ) (s : List ℕ) (passed : heads_check g own s ≡ Ok tt) (i : ℕ) (there : i < series_count s) where
@@ -82,7 +82,7 @@ module _ (g own q : ℕ) (s : List ℕ) (passed : heads_check g own s ≡ Ok tt)
   trade_named : is_trade (kind_at s i) ≡ true → 1 ≤ counter_at s i
   trade_named e = let d = head_lawful g own s passed i there in grind (arith, nat_tests)
 
-  pub names_told : (x : Told) → series_of q s i ≡ Some x → Names x
+  pub names_told : (x : SeriesRead) → series_of q s i ≡ Some x → Names x
   names_told x shown =
       elim (either_told q s i x shown) [
         | inl e ↦ subst Names (sym e.1) (trade_named e.0)

@@ -3,7 +3,7 @@ use Rattle.std.proofs.Common.{◌≡◌, ℕ, true, eqb, List, Some, None, refl,
 use Rattle.std.proofs.lemmas.Bool.{and_parts, eqb-true}
 use Rattle.forms.specs.Slots.{Slot, out_to, in_from, cons, prod, pump, kind_of, counter_of}
 use Rattle.message.specs.Form.{kind_at, counter_at, value_at}
-use Rattle.message.specs.Told.{slot_under}
+use Rattle.message.specs.Read.{slot_under}
 use Rattle.message.specs.Places.{head_is, place_under, value_under}
 
 -- what series i of a message is about

@@ -5,7 +5,7 @@ use Rattle.std.specs.Result.{result_and}
 use Rattle.forms.specs.Checks.{Verdict, refuse_if, each_of}
 use Rattle.forms.specs.declared.fault.Fault.TheVariants.{UnlawfulHead, RepeatedHead}
 use Rattle.message.specs.Form.{series_count, kind_at, counter_at}
-use Rattle.message.specs.Told.{is_trade, is_forecast}
+use Rattle.message.specs.Read.{is_trade, is_forecast}
 use Rattle.message.specs.Places.{first_of, head_is}
 
 -- the counter names one of the g groups, other than the sender's own

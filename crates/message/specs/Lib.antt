@@ -1,5 +1,5 @@
 pub mod Form
-pub mod Told
+pub mod Read
 pub mod Places
 pub mod Heads
 pub mod Values

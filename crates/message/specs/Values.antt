@@ -7,7 +7,7 @@ use Rattle.forms.specs.Kinds.{number_of}
 use Rattle.forms.specs.Checks.{Verdict, refuse_if, each_of}
 use Rattle.forms.specs.declared.fault.Fault.TheVariants.{OutOfRange, UnmeteredForecast, OpposedTrades}
 use Rattle.message.specs.Form.{series_count, kind_at, counter_at, value_at}
-use Rattle.message.specs.Told.{is_forecast}
+use Rattle.message.specs.Read.{is_forecast}
 use Rattle.message.specs.Places.{value_under}
 
 -- a check of series and quarter hours, over the quarter hours of series i

@@ -3,7 +3,7 @@ ghost use Rattle.std.specs.Prelude.{◌≡◌, ℕ, ◌*◌, ◌/◌, ◌<◌, l
 ghost use Rattle.forms.specs.Bytes.{be32};
 ghost use Rattle.forms.specs.Slots.{slot_of};
 ghost use Rattle.message.specs.Form.{series_count};
-ghost use Rattle.message.specs.Told.{told, Shows, Names, bytes_of, told_slot};
+ghost use Rattle.message.specs.Read.{as_read, Shows, Names, bytes_of, slot_read};
 
 use crate::{Head, Message, place, words_of};
 use forms::kind::Kind;
@@ -87,8 +87,8 @@ impl<'a> Message<'a> {
 impl<'a> Series<'a> {
     /// Its values, each in its four bytes.
     pub fn words(&self) -> &'a [[u8; 4]]
-        ensures count { length result.now ≡ length (bytes_of (told self.now)) / 4 }
-        ensures each { (t : ℕ) → t < length result.now → be32 (slice_index_or result.now t []) 0 ≡ be32 (bytes_of (told self.now)) (4 * t) }
+        ensures count { length result.now ≡ length (bytes_of (as_read self.now)) / 4 }
+        ensures each { (t : ℕ) → t < length result.now → be32 (slice_index_or result.now t []) 0 ≡ be32 (bytes_of (as_read self.now)) (4 * t) }
     {
         match self {
             Series::Trade { values, .. } | Series::Forecast { values, .. } => words_of(values),
@@ -97,8 +97,8 @@ impl<'a> Series<'a> {
 
     /// What it is about. A trade's counter has to name a group.
     pub fn slot(&self) -> Slot
-        requires { Names (told self.now) }
-        ensures { slot_of result ≡ told_slot (told self.now) }
+        requires { Names (as_read self.now) }
+        ensures { slot_of result ≡ slot_read (as_read self.now) }
     {
         match self {
             Series::Trade {

@@ -15,13 +15,13 @@ use Rattle.session.specs.Steps.{stepped}
 use Rattle.session.specs.Views.{SessionState}
 use Rattle.serve.specs.Held.{Held, to_come}
 use Rattle.serve.specs.Printed.{answer}
-use Rattle.serve.specs.Sessions.{all_taken, stopped, cut, counted_out, frame_of, bytes_of, answers, last_answer, GoesOn, Serves, SessionLeft}
+use Rattle.serve.specs.Sessions.{all_taken, stopped, cut, counted_out, frame_of, bytes_of_frames, answers, last_answer, GoesOn, Serves, SessionLeft}
 use Rattle.serve.specs.Taken.{IsFrame, Steps, TakesFrame, FramesMake}
 
 -- what frames that were taken have made of session, input and output
 pub record Made (most : ℕ) (frames : List (List ℕ)) (x y : SessionState) (held left : Held) (old new : Option (List ℕ)) : Type 0 where
   pub whole : All IsFrame frames
-  pub bytes : Consumes (to_come held) (to_come left) (bytes_of frames)
+  pub bytes : Consumes (to_come held) (to_come left) (bytes_of_frames frames)
   pub session : y ≡ session_from most x (map frame_of frames)
   pub printed : Appends old new (answers most x (map frame_of frames))
 
@@ -44,7 +44,7 @@ made_more most frames x y z reply held now left old mid new made s printed =
     ap (λ (p : Told × SessionState). p.1) s.3 ∙ ap (λ v. (stepped most v (slice_index frame 0) (drop frame_head frame)).1) made.session in
     record {
       whole = All-cons IsFrame frame frames s.1 made.whole;
-      bytes = Consumes-trans (to_come held) (to_come now) (to_come left) (bytes_of frames) frame made.bytes s.2;
+      bytes = Consumes-trans (to_come held) (to_come now) (to_come left) (bytes_of_frames frames) frame made.bytes s.2;
       session = after;
       printed =
           Appends-trans old mid new (answers most x (map frame_of frames)) (answer (told_at most (session_from most x (map frame_of frames)) (frame_of frame)) (session_from most x (map frame_of (frame ∷ frames)))) made.printed
@@ -77,7 +77,7 @@ served_all most frames x y held now left old mid new made goes kept end out = (
   all_taken,
   record {
     whole = made.whole;
-    bytes = Consumes-kept (to_come held) (to_come now) (to_come left) (bytes_of frames) made.bytes kept;
+    bytes = Consumes-kept (to_come held) (to_come now) (to_come left) (bytes_of_frames frames) made.bytes kept;
     session = made.session;
     ended = (goes, end);
   },
@@ -111,7 +111,7 @@ served_stop most frames x y z held now left old mid new made goes taken printed 
         cut,
         record {
           whole = made.whole;
-          bytes = Consumes-kept (to_come held) (to_come now) (to_come left) (bytes_of frames) made.bytes ends.2;
+          bytes = Consumes-kept (to_come held) (to_come now) (to_come left) (bytes_of_frames frames) made.bytes ends.2;
           session = ends.1 ∙ made.session;
           ended = (goes, ends.3);
         },

@@ -16,9 +16,9 @@ abbrev pub frame_of : List ℕ → Frame
 frame_of bytes = record { letter = slice_index bytes 0; body = drop frame_head bytes }
 
 -- the bytes of frames, as they came
-abbrev pub bytes_of : List (List ℕ) → List ℕ
-bytes_of [] = []
-bytes_of (f ∷ fs) = bytes_of fs ++ f
+abbrev pub bytes_of_frames : List (List ℕ) → List ℕ
+bytes_of_frames [] = []
+bytes_of_frames (f ∷ fs) = bytes_of_frames fs ++ f
 
 -- what is printed for frames, in the order in which they came: for each its answer, with the rows as it left them
 abbrev pub answers : ℕ → SessionState → List Frame → List ℕ
@@ -49,7 +49,7 @@ Ended most x frames left counted_out = GoesOn most x frames × (length frames �
 -- these frames are what is taken of the input, byte for byte, and make of one session the other, which ends for this reason
 pub record TakesFrames (most : ℕ) (frames : List (List ℕ)) (why : Why) (before after : SessionState) (held left : Held) : Type 0 where
   pub whole : All IsFrame frames
-  pub bytes : Consumes (to_come held) (to_come left) (bytes_of frames)
+  pub bytes : Consumes (to_come held) (to_come left) (bytes_of_frames frames)
   pub session : after ≡ session_from most before (map frame_of frames)
   pub ended : Ended most before (map frame_of frames) left why
 

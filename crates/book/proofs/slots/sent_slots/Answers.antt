@@ -3,7 +3,7 @@ use Rattle.std.proofs.lemmas.List.{get_or-replicate, get_or-set_same, get_or-set
 use Rattle.std.proofs.lemmas.Bool.{cases_eq}
 use Rattle.message.specs.Form.{series_count}
 use Rattle.message.specs.Places.{first_of, place_under}
-use Rattle.message.specs.Told.{told}
+use Rattle.message.specs.Read.{as_read}
 use Rattle.message.proofs.Search.{first_none}
 use Rattle.message.proofs.SeriesLaws.{series_there, names_told}
 use Rattle.settlement.specs.Sheets.{Within, slot_number}
@@ -20,12 +20,12 @@ loop-i-init c = record {
 pub slot-requires : goal.slot-requires
 slot-requires c =
     let m = c.args.message.now in
-    names_told c.args.groups c.requires.heads.0 m.quarters m.bytes.now c.requires.heads.1 c.loop-i.i (omega (arith, c.loop-i-test.true, c.count-i-end.ensures)) (told c.in-Some.series) c.in-Some.ensures
+    names_told c.args.groups c.requires.heads.0 m.quarters m.bytes.now c.requires.heads.1 c.loop-i.i (omega (arith, c.loop-i-test.true, c.count-i-end.ensures)) (as_read c.in-Some.series) c.in-Some.ensures
 
 pub slot_number-number-requires : goal.slot_number-number-requires
 slot_number-number-requires c =
     let m = c.args.message.now in
-    let within = within_told c.args.groups c.requires.heads.0 m.bytes.now c.requires.heads.1 c.loop-i.i (omega (arith, c.loop-i-test.true, c.count-i-end.ensures)) m.quarters (told c.in-Some.series) c.in-Some.ensures in
+    let within = within_told c.args.groups c.requires.heads.0 m.bytes.now c.requires.heads.1 c.loop-i.i (omega (arith, c.loop-i-test.true, c.count-i-end.ensures)) m.quarters (as_read c.in-Some.series) c.in-Some.ensures in
     (c.requires.few, subst (Within c.args.groups) (sym c.slot.ensures) within)
 
 pub loop-i-preserved : goal.loop-i-preserved
@@ -42,7 +42,7 @@ loop-i-preserved c =
       | in-Some w ↦
           let m = w.slot_number-number.result in
           let same : m ≡ number g own s passed i there =
-          w.slot_number-number.ensures.value ∙ ap (slot_number g) w.slot.ensures ∙ number_told g own s passed i there q (told w.in-Some.series) w.in-Some.ensures in
+          w.slot_number-number.ensures.value ∙ ap (slot_number g) w.slot.ensures ∙ number_told g own s passed i there q (as_read w.in-Some.series) w.in-Some.ensures in
           let room : m < length xs = omega (arith, w.slot_number-number.ensures.bound, c.requires.few, c.loop-i.invariant.long) in
           record {
             long = ap length w.sent-is ∙ length-set xs m true ∙ c.loop-i.invariant.long;

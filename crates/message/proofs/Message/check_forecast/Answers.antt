@@ -1,7 +1,7 @@
 use Rattle.std.proofs.Common.{◌≡◌, ◌+◌, true, rules, tests}
 use Rattle.forms.proofs.Firsts.{each_in_order}
 use Rattle.message.specs.Form.{kind_at}
-use Rattle.message.specs.Told.{is_forecast}
+use Rattle.message.specs.Read.{is_forecast}
 use Rattle.message.specs.Values.{forecast_check}
 use Rattle.message.proofs.SeriesLaws.{forecast_told}
 use Rattle.message.proofs.Message.check_forecast.Goals as goal

@@ -2,7 +2,7 @@ use Rattle.std.proofs.Common.{◌≡◌, ℕ, ◌+◌, ◌*◌, ◌/◌, ◌<◌
 use Rattle.forms.specs.Bytes.{be32}
 use Rattle.message.specs.Form.{series_count}
 use Rattle.message.specs.Places.{stated}
-use Rattle.message.specs.Told.{told, bytes_of}
+use Rattle.message.specs.Read.{as_read, bytes_of}
 use Rattle.message.proofs.HeadLaws.{stated_about}
 use Rattle.message.proofs.SeriesLaws.{series_there, names_told, value_told, length_told}
 use Rattle.settlement.specs.Sheets.{Within, slots, slot_number, slot_at}
@@ -21,20 +21,20 @@ loop-i-init c = laid_first _ _ _ _ _
 pub slot-requires : goal.slot-requires
 slot-requires c =
     let m = c.args.message.now in
-    names_told (size (state_of c.args.self.now)) c.args.own m.quarters m.bytes.now c.requires.read.heads c.loop-i.i (omega (arith, c.loop-i-test.true, c.count-i-end.ensures)) (told c.in-Some.series) c.in-Some.ensures
+    names_told (size (state_of c.args.self.now)) c.args.own m.quarters m.bytes.now c.requires.read.heads c.loop-i.i (omega (arith, c.loop-i-test.true, c.count-i-end.ensures)) (as_read c.in-Some.series) c.in-Some.ensures
 
 pub slot_number-number-requires : goal.slot_number-number-requires
 slot_number-number-requires c =
     let m = c.args.message.now in
     let g = size (state_of c.args.self.now) in
-    let within = within_told g c.args.own m.bytes.now c.requires.read.heads c.loop-i.i (omega (arith, c.loop-i-test.true, c.count-i-end.ensures)) m.quarters (told c.in-Some.series) c.in-Some.ensures in
+    let within = within_told g c.args.own m.bytes.now c.requires.read.heads c.loop-i.i (omega (arith, c.loop-i-test.true, c.count-i-end.ensures)) m.quarters (as_read c.in-Some.series) c.in-Some.ensures in
     (c.groups-groups.ensures.few, rw c.groups-groups.ensures.value (subst (Within g) (sym c.slot.ensures) within))
 
 pub lay_series-requires : goal.lay_series-requires
 lay_series-requires c =
     let m = c.args.message.now in
     let there : c.loop-i.i < series_count m.bytes.now = omega (arith, c.loop-i-test.true, c.count-i-end.ensures) in
-    let long = length_told m.quarters m.bytes.now c.loop-i.i (told c.in-Some.series) c.in-Some.ensures c.requires.read.formed there in
+    let long = length_told m.quarters m.bytes.now c.loop-i.i (as_read c.in-Some.series) c.in-Some.ensures c.requires.read.formed there in
     omega (arith, long, c.place-at.ensures.room, c.requires.read.quarters, quarters_fit (today (state_of c.args.self.now)), c.loop-i.auto.sheet, c.requires.sheet)
 
 pub loop-i-preserved : goal.loop-i-preserved
@@ -52,7 +52,7 @@ loop-i-preserved c =
     let there : i < series_count form = omega (arith, c.loop-i-test.true, c.count-i-end.ensures) in
     elim c.match-series.branch [
       | in-Some w ↦
-          let x = told w.in-Some.series in
+          let x = as_read w.in-Some.series in
           let shown = w.in-Some.ensures in
           let n = number g own form heads i there in
           let below : n < slots g = number_below g _ (within g own form heads i there) in

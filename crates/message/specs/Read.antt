@@ -20,16 +20,16 @@ abbrev pub is_forecast : ℕ → Bool
 is_forecast kind = is_in_range (number_of kinds.Cons) (number_of kinds.Pump) kind
 
 -- what a series says: a trade has a place, a kind, a counter and the bytes of its values; a forecast has no counter
-pub data Told : Type 0 where
-  trade : ℕ → ℕ → ℕ → List ℕ → Told
-  forecast : ℕ → ℕ → List ℕ → Told
+pub data SeriesRead : Type 0 where
+  trade : ℕ → ℕ → ℕ → List ℕ → SeriesRead
+  forecast : ℕ → ℕ → List ℕ → SeriesRead
 
-abbrev pub bytes_of : Told → List ℕ
+abbrev pub bytes_of : SeriesRead → List ℕ
 bytes_of (trade place kind counter bytes) = bytes
 bytes_of (forecast place kind bytes) = bytes
 
 -- the counter of a trade names a group, from 1
-abbrev pub Names : Told → Type 0
+abbrev pub Names : SeriesRead → Type 0
 Names (trade place kind counter bytes) = 1 ≤ counter
 Names (forecast place kind bytes) = Unit {0}
 
@@ -41,12 +41,12 @@ slot_under kind counter =
     (cond (kind == number_of kinds.Cons) cons (cond (kind == number_of kinds.Prod) prod pump)))
 
 -- what a series as read is about
-abbrev pub told_slot : Told → Slot
-told_slot (trade place kind counter bytes) = slot_under kind counter
-told_slot (forecast place kind bytes) = slot_under kind 0
+abbrev pub slot_read : SeriesRead → Slot
+slot_read (trade place kind counter bytes) = slot_under kind counter
+slot_read (forecast place kind bytes) = slot_under kind 0
 
 -- series i of a message, or none where its kind is no kind
-abbrev pub series_of : ℕ → List ℕ → ℕ → Option Told
+abbrev pub series_of : ℕ → List ℕ → ℕ → Option SeriesRead
 series_of q s i =
     cond (is_trade (kind_at s i)) (Some (trade (i + 1) (kind_at s i) (counter_at s i) (values_at q s i)))
     (cond (is_forecast (kind_at s i)) (Some (forecast (i + 1) (kind_at s i) (values_at q s i))) None)
@@ -61,10 +61,10 @@ forecast_kind Cons = number_of kinds.Cons
 forecast_kind Prod = number_of kinds.Prod
 forecast_kind Pump = number_of kinds.Pump
 
-abbrev pub told : src.Series → Told
-told (src-series.Trade place direction counter values) = trade place (direction_kind direction) counter values.now
-told (src-series.Forecast place kind values) = forecast place (forecast_kind kind) values.now
+abbrev pub as_read : src.Series → SeriesRead
+as_read (src-series.Trade place direction counter values) = trade place (direction_kind direction) counter values.now
+as_read (src-series.Forecast place kind values) = forecast place (forecast_kind kind) values.now
 
 abbrev pub Shows : Option src.Series → ℕ → List ℕ → ℕ → Type 0
 Shows None q s i = series_of q s i ≡ None
-Shows (Some x) q s i = series_of q s i ≡ Some (told x)
+Shows (Some x) q s i = series_of q s i ≡ Some (as_read x)
