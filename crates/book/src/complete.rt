@@ -4,12 +4,11 @@ ghost use Rattle.forms.specs.Checks.{refuse_if};
 ghost use Rattle.forms.specs.declared.fault.Fault.TheVariants.{MissingSeries};
 ghost use Rattle.forms.specs.Slots.{cons, prod, pump};
 ghost use Rattle.message.specs.Places.{first_of, sent_in};
-ghost use Rattle.settlement.specs.Sheets.{slots, slot_at};
+ghost use Rattle.settlement.specs.Sheets.{slots};
 ghost use Rattle.book.specs.Messages.{left_out, incomplete};
 ghost use Rattle.book.specs.States.{state_of, size};
 
 use crate::sending::Sending;
-use crate::slots::sent_slots;
 use forms::fault::Fault;
 use forms::slot::Slot;
 use settlement::sheet::slots_per_group;
@@ -25,13 +24,12 @@ impl Sending<'_, '_, '_> {
     }
 
     /// Whether the slot of this number was sent today and is not sent again.
-    fn leaves_out_at(&self, number: usize, again: bool) -> bool
-        requires there { number < slots (size (state_of self.now.day.ledger.now)) }
-        requires again { again ≡ sent_in self.now.message.bytes.now (slot_at (size (state_of self.now.day.ledger.now)) number) }
+    fn leaves_out_at(&self, number: usize) -> bool
+        requires { number < slots (size (state_of self.now.day.ledger.now)) }
         ensures { result ≡ left_out (state_of self.now.day.ledger.now) self.now.own self.now.message.bytes.now number }
     {
         let ledger = self.day.ledger;
-        !again && ledger.sent[ledger.place(self.own, number)]
+        !self.sent[number] && ledger.sent[ledger.place(self.own, number)]
     }
 
     /// Whether a series that the group has had accepted today is left out.
@@ -39,8 +37,7 @@ impl Sending<'_, '_, '_> {
         ensures { result ≡ is_some (first_of (left_out (state_of self.now.day.ledger.now) self.now.own self.now.message.bytes.now) (slots (size (state_of self.now.day.ledger.now)))) }
     {
         let groups = self.day.ledger.groups();
-        let sent = sent_slots(groups, &self.message);
-        (0..slots_per_group(groups)).any(|number| self.leaves_out_at(number, sent[number]))
+        (0..slots_per_group(groups)).any(|number| self.leaves_out_at(number))
     }
 
     /// Refuses a message that leaves out a series accepted today, or a forecast of a metered group.

@@ -7,7 +7,6 @@ ghost use Rattle.book.specs.States.{state_of, size, day_quarters};
 
 use crate::ledger::{FLAGS, Ledger};
 use crate::sending::Sending;
-use crate::slots::sent_slots;
 use message::Message;
 use message::series::Series;
 use settlement::sheet::{WORDS_PER_SLOT, slot_number, slots_per_group};
@@ -52,10 +51,9 @@ impl Sending<'_, '_, '_> {
         let first = ledger.place(self.own, 0);
         let groups = ledger.groups();
         let slots = slots_per_group(groups);
-        let now = sent_slots(groups, &self.message);
         let mut sent = ledger.sent;
         for (number, flag) in sent[first..first + slots].iter_mut().enumerate() {
-            *flag = now[number];
+            *flag = self.sent[number];
         }
         sent
     }

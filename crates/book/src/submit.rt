@@ -11,6 +11,7 @@ use crate::ledger::Ledger;
 use crate::open_day::OpenDay;
 use crate::opened::Opened;
 use crate::sending::Sending;
+use crate::slots::sent_slots;
 use forms::fault::Fault;
 use message::{Header, MessageReader};
 use stage::rule::StageRule;
@@ -55,12 +56,14 @@ impl Ledger {
         let day = self.open_day(sheet)?;
         let header = message.header();
         let own = self.check_sender(header)?;
-        message.check_heads(self.groups() as u8, own as u8)?;
+        let groups = self.groups();
+        message.check_heads(groups as u8, own as u8)?;
         let sending = Sending {
             day,
             message,
             own,
             version: header.version,
+            sent: sent_slots(groups, &message),
         };
         sending.check_series()?;
         Ok(sending)

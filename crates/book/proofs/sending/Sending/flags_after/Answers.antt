@@ -16,9 +16,8 @@ loop-number-preserved c =
     let n = c.loop-number.number in
     let xs = c.loop-number.flag-items in
     let within : n < length xs = omega (arith, c.loop-number-test.true, c.loop-number.auto.flag-items) in
-    let below : n < slots c.groups-groups.result = omega (arith, within, c.loop-number.auto.flag-items, c.slots_per_group-slots.ensures) in
-    let is : get_or c.sent_slots-now.result n false ≡ sent_in form (slot_at g n) =
-    c.sent_slots-now.ensures n below ∙ ap (λ m. sent_in form (slot_at m n)) c.groups-groups.ensures.value in
+    let below : n < slots g = omega (arith, within, c.loop-number.auto.flag-items, c.slots_per_group-slots.ensures, c.groups-groups.ensures.value) in
+    let is : get_or c.args.self.now.sent n false ≡ sent_in form (slot_at g n) = c.args.self.now.series n below in
     λ k l. ap (λ v. get_or (set xs n v) k false) is ∙ fill_by_more (λ m. sent_in form (slot_at g m)) xs n false within c.loop-number.invariant k l
 
 pub returns : goal.returns
