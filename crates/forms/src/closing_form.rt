@@ -56,7 +56,7 @@ impl<'a> ClosingForm<'a> {
         self.value(self.groups as usize + 1, t)
     }
 
-    // the number of series `i` at quarter hour `t` is no farther from zero than the bound
+    /// The number of series `i` at quarter hour `t` is no farther from zero than the bound.
     fn check_value(&self, i: usize, t: u8, bound: u32) -> Result<(), Fault>
         requires within { (i < closing_series self.now.groups) × (t < self.now.quarters) }
         requires bound { bound ≡ value_bound self.now.groups i }

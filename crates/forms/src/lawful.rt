@@ -13,7 +13,7 @@ use crate::opening::{GROUP_BYTES, OPENING_HEADER};
 use crate::opening_form::OpeningForm;
 
 impl Group {
-    // no power is above the bound
+    /// No power is above the bound.
     fn has_powers_within(&self) -> bool
         ensures { result ≡ powers_within (figures_of self.now) }
     {
@@ -22,7 +22,7 @@ impl Group {
         self.prod_max.max(self.pump_depth).max(highest_limit) <= POWER_BOUND
     }
 
-    // without metering points there is neither production nor a pump
+    /// Without metering points there is neither production nor a pump.
     fn has_plants_metered(&self) -> bool
         ensures { result ≡ plants_metered (figures_of self.now) }
     {
@@ -31,14 +31,14 @@ impl Group {
 }
 
 impl TariffRow {
-    // neither figure is above its bound
+    /// Neither figure is above its bound.
     fn is_within_bounds(&self) -> bool
         ensures { result ≡ rates_within (rates_of self.now) }
     {
         self.fee <= FEE_BOUND && self.rate <= RATE_BOUND
     }
 
-    // neither figure falls to the next row
+    /// Neither figure falls to the next row.
     fn is_at_most(&self, next: &TariffRow) -> bool
         ensures { result ≡ no_fall (rates_of self.now) (rates_of next.now) }
     {

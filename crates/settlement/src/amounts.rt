@@ -43,7 +43,7 @@ pub fn to_cents(sum: i64) -> i64
 
 // Both prices meet in these few functions alone: a struct for the two would be no plainer.
 
-// An imbalance times a price.
+/// An imbalance times a price.
 fn product(imbalance: i64, price: i32) -> i64
     requires { (unsigned_abs imbalance ≤ most_imbalance) × (unsigned_abs price ≤ price_bound) }
     ensures value { result ≡ imbalance *ℤ price }
@@ -52,7 +52,7 @@ fn product(imbalance: i64, price: i32) -> i64
     imbalance * i64::from(price)
 }
 
-// What an imbalance costs at its price, in 4000ths of a cent: short below zero, long above.
+/// What an imbalance costs at its price, in 4000ths of a cent: short below zero, long above.
 fn imbalance_cost(imbalance: i64, long: i32, short: i32) -> i64
     requires { (unsigned_abs imbalance ≤ most_imbalance) × ((unsigned_abs long ≤ price_bound) × (unsigned_abs short ≤ price_bound)) }
     ensures value { result ≡ imbalance_cost imbalance long short }

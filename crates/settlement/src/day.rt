@@ -60,7 +60,7 @@ impl DayTrades {
 }
 
 impl WholeSheet<'_, '_> {
-    // Adds a slot's words to a day's sums; a slot not sent adds nothing.
+    /// Adds a slot's words to a day's sums; a slot not sent adds nothing.
     fn add_slot(&self, group: usize, slot: Slot, sums: &mut [u64])
         requires within { (group < self.now.groups) × (Within self.now.groups (slot_of slot)) }
         requires room { HasRoom sums.old }
@@ -85,7 +85,7 @@ impl WholeSheet<'_, '_> {
         })
     }
 
-    // Adds the confirmed trade from group `a` to group `b` to a day's sums.
+    /// Adds the confirmed trade from group `a` to group `b` to a day's sums.
     fn add_trade(&self, a: usize, b: usize, sums: &mut [u64])
         requires within { (a < self.now.groups) × (b < self.now.groups) }
         requires room { HasRoom sums.old }

@@ -81,7 +81,7 @@ impl WholeSheet<'_, '_> {
     }
 
     // One turn of the sum below, so it is given all that the sum has.
-    // How far group `a`'s confirmed open position lies beyond its limit, by its confirmed trades of the day.
+    /// How far group `a`'s confirmed open position lies beyond its limit, by its confirmed trades of the day.
     fn confirmed_excess(&self, figures: &Group, trades: &DayTrades, a: usize, t: usize) -> u64
         requires { (a < self.now.groups) × (t < words_per_slot) }
         ensures value { result ≡ excess (figures_of figures.now) After (open_position (figures_of figures.now) (day_net trades.now.taken trades.now.given t -ℤ pos (sent_on self.now a cons t))) }

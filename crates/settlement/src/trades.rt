@@ -26,7 +26,7 @@ impl WholeSheet<'_, '_> {
         out_to.min(in_from)
     }
 
-    // The trades of group `a` with group `b`, in less out. Each of the four words is read once.
+    /// The trades of group `a` with group `b`, in less out. Each of the four words is read once.
     fn between(&self, a: usize, b: usize, t: usize) -> TradeSums
         requires { (a < self.now.groups) × ((b < self.now.groups) × (t < words_per_slot)) }
         ensures stated { result.stated ≡ pos (sent_on self.now a (in_from b) t) -ℤ pos (sent_on self.now a (out_to b) t) }

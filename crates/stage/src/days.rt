@@ -5,7 +5,7 @@ ghost use Rattle.stage.specs.Marked.{marks_of, on_day};
 
 use crate::marks::Marks;
 
-// Where the mark of a day stands that `before` days come before: its word, and its bit in that word.
+/// Where the mark of a day stands that `before` days come before: its word, and its bit in that word.
 fn place(before: u16) -> (usize, u64)
     ensures word { result.0 ≡ before / 64 }
     ensures bit { result.1 ≡ 2 ^ (before % 64) }
