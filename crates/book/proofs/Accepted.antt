@@ -1,11 +1,11 @@
 -- What an accepted message leaves: the sender's series on the sheet are those of the message.
-use Rattle.std.proofs.Common.{◌≡◌, ℕ, zero, suc, ◌+◌, ◌*◌, ◌<◌, ◌≤◌, Bool, false, cond, eqb, ltb, List, length, get_or, pos, ◌-ℤ◌, sym, refl, ap, ◌∙◌, inl, inr, arith}
-use Rattle.std.specs.Option.{option_map}
+use Rattle.std.proofs.Common.{◌≡◌, ℕ, zero, suc, ◌+◌, ◌*◌, ◌<◌, ◌≤◌, Bool, false, cond, eqb, ltb, List, length, get_or, pos, ◌-ℤ◌, Some, None, sym, refl, ap, ◌∙◌, inl, inr, arith}
+use Rattle.std.specs.Option.{option_map, option_or}
 use Rattle.std.proofs.lemmas.List.FromFn.{get_or-map-range_with_len}
 use Rattle.std.proofs.lemmas.Bool.{cases_Bool}
 use Rattle.forms.specs.Figures.{GroupFigures}
 use Rattle.forms.specs.Slots.{Slot, out_to, in_from, cons, kind_of, counter_of}
-use Rattle.message.specs.Places.{first_of, or_at, place_of, sent_in, stated}
+use Rattle.message.specs.Places.{first_of, place_of, sent_in, stated}
 use Rattle.message.proofs.Search.{none_from}
 use Rattle.message.proofs.Stated.{value_missing}
 use Rattle.settlement.specs.Positions.{stated_with, stated_open, excess}
@@ -67,7 +67,7 @@ count_same p r (suc n) h = let e = count_same p r n (λ k l. h k (omega arith)) 
 first_same : (p r : ℕ → Bool) (n : ℕ) → ((k : ℕ) → k < n → p k ≡ r k) → first_of p n ≡ first_of r n
 unfolding first_of
 first_same p r zero h = refl
-first_same p r (suc n) h = let e = first_same p r n (λ k l. h k (omega arith)) in let x = h n (omega arith) in λ j. or_at (e j) (x j) n
+first_same p r (suc n) h = let e = first_same p r n (λ k l. h k (omega arith)) in let x = h n (omega arith) in λ j. option_or (e j) (cond (x j) (Some n) None)
 
 pub tally_same : (p r : ℕ → Bool) (n : ℕ) → ((k : ℕ) → k < n → p k ≡ r k) → tally p n ≡ tally r n
 tally_same p r n h = let c = count_same p r n h in let f = first_same p r n h in λ j. (c j, option_map (λ k. k + 1) (f j))

@@ -1,27 +1,19 @@
 -- The series of a message whose heads have passed, by the numbers of their slots.
-use Rattle.std.proofs.Common.{◌≡◌, ℕ, ◌+◌, ◌<◌, Bool, true, false, List, Some, None, Ok, Option, refl, sym, ap, ◌∙◌, subst, add-one, inl, inr, arith}
+use Rattle.std.proofs.Common.{◌≡◌, ℕ, ◌+◌, ◌<◌, Bool, true, List, Some, None, Ok, sym, ap, ◌∙◌, subst, inl, inr, arith}
 use Rattle.std.proofs.lemmas.Bool.{cases_Bool}
 use Rattle.std.proofs.lemmas.Bool.Decides.{nat_tests}
 use Rattle.forms.specs.Slots.{kind_of, counter_of}
 use Rattle.message.specs.Form.{series_count, kind_at, counter_at}
 use Rattle.message.specs.Heads.{lawful_head, heads_check}
 use Rattle.message.specs.Read.{SeriesRead, slot_under, slot_read, series_of}
-use Rattle.message.specs.Places.{first_of, or_at, head_is}
+use Rattle.message.specs.Places.{first_of, head_is}
 use Rattle.message.proofs.HeadLaws.{head_lawful, about_head, about_first}
 use Rattle.message.proofs.Search.{first_found}
 use Rattle.message.proofs.SeriesLaws.{slot_told}
 use Rattle.message.proofs.Stated.{about, head_about}
 use Rattle.settlement.specs.Sheets.{Within, slots, slot_number, slot_at}
 use Rattle.settlement.proofs.Places.{slot_again, number_again}
-
--- the first of i + 1, where i does not meet the test
-or_none : (o : Option ℕ) (i : ℕ) → or_at o false i ≡ o
-or_none None i = refl
-or_none (Some k) i = refl
-
-pub first_kept : (test : ℕ → Bool) (i : ℕ) → test i ≡ false → first_of test (i + 1) ≡ first_of test i
-unfolding first_of
-first_kept test i e = rw (add-one i, e) (or_none (first_of test i) i)
+use Rattle.book.proofs.Counting.{first_no}
 
 -- series i is about the slot of number n
 abbrev pub is_about : ℕ → List ℕ → ℕ → ℕ → Bool
@@ -49,7 +41,7 @@ module _ (g own : ℕ) (s : List ℕ) (passed : heads_check g own s ≡ Ok tt) (
 
   -- and is about no other
   pub skipped : (n : ℕ) → n < slots g → (n ≡ number → ⊥) → first_of (is_about g s n) (i + 1) ≡ first_of (is_about g s n) i
-  skipped n l apart = first_kept (is_about g s n) i (elim (cases_Bool (is_about g s n i)) [
+  skipped n l apart = first_no (is_about g s n) i (elim (cases_Bool (is_about g s n i)) [
     | inl e ↦ absurd (apart (sym (ap (slot_number g) (head_about s (slot_at g n) i e) ∙ number_again g n l)))
     | inr e ↦ e
   ])

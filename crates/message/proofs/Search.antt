@@ -4,17 +4,12 @@ use Rattle.std.specs.List.{range_with_len, find}
 use Rattle.std.specs.Option.{option_map, option_or}
 use Rattle.std.proofs.lemmas.List.Folds.{find-append}
 use Rattle.std.proofs.lemmas.Bool.{cases_order}
-use Rattle.message.specs.Places.{first_of, or_at, IsFirst}
+use Rattle.message.specs.Places.{first_of, IsFirst}
 
 -- the numbers 0, 1, .., n
 pub range_more : (a n : ℕ) → range_with_len a (suc n) ≡ range_with_len a n ++ (a + n) ∷ []
 range_more a zero = ap (λ k. k ∷ []) (sym (add-zero a))
 range_more a (suc n) = ap (λ l. a ∷ l) (range_more (a + 1) n ∙ ap (λ k. range_with_len (a + 1) n ++ k ∷ []) (omega arith))
-
-or_found : (o : Option ℕ) (b : Bool) (n : ℕ) → option_or o (cond b (Some n) None) ≡ or_at o b n
-or_found (Some i) b n = refl
-or_found None true n = refl
-or_found None false n = refl
 
 -- the library's search over them
 pub find_first : (test : ℕ → Bool) (n : ℕ) → find test (range_with_len 0 n) ≡ first_of test n
@@ -23,7 +18,7 @@ find_first test zero = refl
 find_first test (suc n) =
     let last : 0 + n ≡ n = omega arith in
     ap (find test) (range_more 0 n ∙ ap (λ k. range_with_len 0 n ++ k ∷ []) last) ∙ find-append test (range_with_len 0 n) (n ∷ [])
-    ∙ ap (λ o. option_or o (cond (test n) (Some n) None)) (find_first test n) ∙ or_found (first_of test n) (test n) n
+    ∙ ap (λ o. option_or o (cond (test n) (Some n) None)) (find_first test n)
 
 pub found_itself : (o : Option ℕ) → option_map (λ (x : ℕ). x) o ≡ o
 found_itself None = refl
@@ -49,7 +44,7 @@ first_found test (suc n) i l h e =
       ]
     ]
 
-one_more : (test : ℕ → Bool) (n : ℕ) (r : Option ℕ) (b : Bool) → test n ≡ b → IsFirst test n r → IsFirst test (suc n) (or_at r b n)
+one_more : (test : ℕ → Bool) (n : ℕ) (r : Option ℕ) (b : Bool) → test n ≡ b → IsFirst test n r → IsFirst test (suc n) (option_or r (cond b (Some n) None))
 one_more test n (Some i) b e (l, met, before) = (omega arith, met, before)
 one_more test n None true e h = (omega arith, e, h)
 one_more test n None false e h = λ k l. elim (cases_order k n)

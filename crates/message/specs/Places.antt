@@ -1,17 +1,13 @@
 -- Which series of a message is about what, and the values that the message states.
 use Rattle.std.specs.Prelude.{◌≡◌, ℕ, zero, suc, ◌<◌, Bool, true, false, cond, ◌&&◌, List, is_some, Some, None, Option, ◌==◌}
+use Rattle.std.specs.Option.{option_or, option_map_or}
 use Rattle.forms.specs.Slots.{Slot, kind_of, counter_of}
 use Rattle.message.specs.Form.{series_count, kind_at, counter_at, value_at}
-
--- what was found before n, or n itself where it meets the test
-abbrev pub or_at : Option ℕ → Bool → ℕ → Option ℕ
-or_at (Some i) b n = Some i
-or_at None b n = cond b (Some n) None
 
 -- the first of 0, 1, .., n - 1 that meets the test
 unfoldable pub first_of : (ℕ → Bool) → ℕ → Option ℕ
 first_of test zero = None
-first_of test (suc n) = or_at (first_of test n) (test n) n
+first_of test (suc n) = option_or (first_of test n) (cond (test n) (Some n) None)
 
 -- What that says: the place found meets the test and none before it does; where none is found, none does.
 abbrev pub IsFirst : (ℕ → Bool) → ℕ → Option ℕ → Type 0
@@ -34,13 +30,9 @@ place_of s slot = place_under s (kind_of slot) (counter_of slot)
 abbrev pub sent_in : List ℕ → Slot → Bool
 sent_in s slot = is_some (place_of s slot)
 
-abbrev pub value_or_zero : ℕ → List ℕ → Option ℕ → ℕ → ℕ
-value_or_zero q s (Some i) t = value_at q s i t
-value_or_zero q s None t = 0
-
 -- the value at t of the series under this head, 0 where the message has none
 unfoldable pub value_under : ℕ → List ℕ → ℕ → ℕ → ℕ → ℕ
-value_under q s kind counter t = value_or_zero q s (place_under s kind counter) t
+value_under q s kind counter t = option_map_or (λ i. value_at q s i t) (place_under s kind counter) 0
 
 -- what the message states for this slot at t, 0 where it has no such series
 abbrev pub stated : ℕ → List ℕ → Slot → ℕ → ℕ
