@@ -57,7 +57,3 @@ module _ (o : Opening) where
   pub count_in : length (terms_in o).groups ≡ o.groups.count
   unfolding terms_in
   count_in = length-map (take o.groups.count o.groups.places) figures_of ∙ length-take-le o.groups.count o.groups.places o.groups.room
-
-  pub rows_in : length (terms_in o).tariff ≡ o.tariff.count
-  unfolding terms_in
-  rows_in = length-map (take o.tariff.count o.tariff.places) rates_of ∙ length-take-le o.tariff.count o.tariff.places o.tariff.room

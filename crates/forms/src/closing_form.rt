@@ -71,7 +71,7 @@ impl<'a> ClosingForm<'a> {
         Ok(())
     }
 
-    // every quarter hour of one series
+    /// Every quarter hour of one series.
     #[tactic(auto, using(crate::proofs::Firsts::each_in_order))]
     fn check_series(&self, i: usize, bound: u32) -> Result<(), Fault>
         requires within { i < closing_series self.now.groups }
@@ -81,7 +81,7 @@ impl<'a> ClosingForm<'a> {
         in_order(self.quarters, |t| self.check_value(i, t, bound))
     }
 
-    // the feed-ins of every group
+    /// The feed-ins of every group.
     #[tactic(auto, using(crate::proofs::Firsts::each_in_order))]
     fn check_feed_ins(&self) -> Result<(), Fault>
         ensures { result ≡ each_of (closing_series_check self.now.groups self.now.quarters self.now.bytes.now) self.now.groups }

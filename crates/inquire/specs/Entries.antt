@@ -11,14 +11,14 @@ use Rattle.inquire.specs.declared.line.Line.TheVariants.{Position, Trade, Standi
 -- Quarter hour and group: the stated and the confirmed open position and the net purchases. Quarter hour, seller and buyer: the trade.
 -- Day and group: mark and stage. Group: penalties and balance.
 pub data TableEntry : Type 0 where
-  position : ℕ → ℕ → Result (ℤ × ℤ × ℤ) Fault → TableEntry
+  position_asked : ℕ → ℕ → Result (ℤ × ℤ × ℤ) Fault → TableEntry
   trade : ℕ → ℕ → ℕ → Result ℕ Fault → TableEntry
   standing : ℕ → ℕ → Result (Bool × ℕ) Fault → TableEntry
   total : ℕ → Result (ℕ × ℤ) Fault → TableEntry
 
 -- the same as the code holds it
 abbrev pub entry_of : Line → TableEntry
-entry_of (Position quarter group answer) = position quarter group answer
+entry_of (Position quarter group answer) = position_asked quarter group answer
 entry_of (Trade quarter from to answer) = trade quarter from to answer
 entry_of (Standing day group answer) = standing day group (standing_of answer)
 entry_of (Total group answer) = total group (total_of answer)
@@ -47,7 +47,7 @@ total_told p = decimal p.0 ++ (codes " " ++ signed_decimal p.1)
 
 -- the fields with one blank between, a mark as 1 or 0
 abbrev pub text : TableEntry → List ℕ
-text (position quarter group answer) =
+text (position_asked quarter group answer) =
     codes "POSITION " ++ (decimal quarter ++ (codes " " ++ (decimal group ++ (codes " " ++ told positions_told answer))))
 text (trade quarter from to answer) =
     codes "TRADE " ++ (decimal quarter ++ (codes " " ++ (decimal from ++ (codes " " ++ (decimal to ++ (codes " " ++ told decimal answer))))))

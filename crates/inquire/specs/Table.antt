@@ -3,7 +3,7 @@ use Rattle.std.specs.Prelude.{ℕ, cond, List, [], ◌∷◌, ◌++◌, ◌==◌
 use Rattle.std.specs.List.{range_with_len, flat_map}
 use Rattle.book.specs.Calls.{asks_position, asks_trade, asks_standing, asks_total, groups_in, days_cut_in}
 use Rattle.session.specs.Views.{SessionState}
-use Rattle.inquire.specs.Entries.{TableEntry, position, trade, standing, total}
+use Rattle.inquire.specs.Entries.{TableEntry, position_asked, trade, standing, total}
 
 -- what f has for 1, for 2, and so on up to n, one after the other
 abbrev pub each_to : ℕ → (ℕ → List TableEntry) → List TableEntry
@@ -14,7 +14,7 @@ groups s = groups_in s.place
 
 -- the positions of all groups at a quarter hour
 abbrev pub position_at : SessionState → ℕ → ℕ → List TableEntry
-position_at s quarter a = position quarter a (asks_position s.place s.sheet a quarter) ∷ []
+position_at s quarter a = position_asked quarter a (asks_position s.place s.sheet a quarter) ∷ []
 
 abbrev pub positions : SessionState → ℕ → List TableEntry
 positions s quarter = each_to (groups s) (position_at s quarter)

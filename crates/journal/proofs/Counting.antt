@@ -1,25 +1,24 @@
 -- Counts over a journal, and parts of it, when an entry is added.
-use Rattle.std.proofs.Common.{◌≡◌, ℕ, ◌+◌, ◌-◌, ◌<◌, Bool, true, false, ◌&&◌, eqb, ◌∷◌, arith}
+use Rattle.std.proofs.Common.{◌≡◌, ℕ, ◌+◌, ◌-◌, ◌<◌, Bool, true, false, cond, ◌&&◌, eqb, ◌∷◌, count_by, ap, ◌∙◌, arith}
+use Rattle.std.proofs.lemmas.List.Sums.{sum_by-cons}
 use Rattle.std.proofs.lemmas.Bool.{eq-eqb, ne_eqb, and_from, and_right, cond-true, cond-false}
-use Rattle.journal.specs.Journals.{Entry, Journal, how_many, before, closed_here, closes, closing_form, form_in}
+use Rattle.journal.specs.Journals.{Entry, Journal, before, closed_here, closes, closing_form, form_in}
 
 module _ (p : Entry → Bool) (e : Entry) (j : Journal) where
-  pub one_more : p e ≡ true → how_many p (e ∷ j) ≡ how_many p j + 1
-  unfolding how_many
-  one_more h = rw h (omega arith)
+  pub one_more : p e ≡ true → count_by p (e ∷ j) ≡ count_by p j + 1
+  one_more h = sum_by-cons (λ x. cond (p x) 1 0) e j ∙ ap (λ b. cond b 1 0 + count_by p j) h ∙ omega arith
 
-  pub no_more : p e ≡ false → how_many p (e ∷ j) ≡ how_many p j
-  unfolding how_many
-  no_more h = rw h (omega arith)
+  pub no_more : p e ≡ false → count_by p (e ∷ j) ≡ count_by p j
+  no_more h = sum_by-cons (λ x. cond (p x) 1 0) e j ∙ ap (λ b. cond b 1 0 + count_by p j) h ∙ omega arith
 
   -- what came before an entry that is passed already stays, and before the newest comes the rest
-  pub before_kept : (n : ℕ) → n < how_many p j → before p n (e ∷ j) ≡ before p n j
+  pub before_kept : (n : ℕ) → n < count_by p j → before p n (e ∷ j) ≡ before p n j
   unfolding before
-  before_kept n l = cond-false (p e && eqb (how_many p j) n) j (before p n j) (and_right (p e) (eqb (how_many p j) n) (ne_eqb (how_many p j) n (λ h. omega arith)))
+  before_kept n l = cond-false (p e && eqb (count_by p j) n) j (before p n j) (and_right (p e) (eqb (count_by p j) n) (ne_eqb (count_by p j) n (λ h. omega arith)))
 
-  pub before_now : (n : ℕ) → p e ≡ true → how_many p j ≡ n → before p n (e ∷ j) ≡ j
+  pub before_now : (n : ℕ) → p e ≡ true → count_by p j ≡ n → before p n (e ∷ j) ≡ j
   unfolding before
-  before_now n h k = cond-true (p e && eqb (how_many p j) n) j (before p n j) (and_from (p e) (eqb (how_many p j) n) h (eq-eqb (how_many p j) n k))
+  before_now n h k = cond-true (p e && eqb (count_by p j) n) j (before p n j) (and_from (p e) (eqb (count_by p j) n) h (eq-eqb (count_by p j) n k))
 
 pub form_kept : (e : Entry) (j : Journal) (day : ℕ) → day - 1 < closes j → closing_form day (e ∷ j) ≡ closing_form day j
 unfolding closing_form

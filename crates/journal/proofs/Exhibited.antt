@@ -24,7 +24,7 @@ use Rattle.book.specs.Tallies.{count_where}
 use Rattle.book.proofs.Submitting.{submit_accepted}
 use Rattle.journal.specs.Books.{Unchanged, Stepped, Brings, JournalOf}
 use Rattle.journal.specs.Exhibit.{FartherCostsMore, opening, message, unsent, laid, idle, short}
-use Rattle.journal.specs.Journals.{Journal, submit, advance, standing, total, how_many, before, last_message, says, cut_offs}
+use Rattle.journal.specs.Journals.{Journal, submit, advance, standing, total, before, last_message, says, cut_offs}
 use Rattle.journal.specs.Reckoned.{open_at, excess_on, marks_to, penalty_on, penalties, stage}
 use Rattle.journal.specs.Theorem.{Lawful, FartherAtCutOffs}
 use Rattle.journal.proofs.Replay.{opens}
@@ -52,7 +52,7 @@ unfolding settling cut_off past_cut_off on_sheet
 by_book = tt
 
 by_journal : Unit {0}
-unfolding settling penalties penalty_on marks_to excess_on says last_message before how_many
+unfolding settling penalties penalty_on marks_to excess_on says last_message before
 by_journal = tt
 
 -- the book on day 1

@@ -18,7 +18,7 @@ use Rattle.book.specs.Sheets.{sheet_fits, all_powers}
 use Rattle.book.specs.States.{State, nothing_kept, kept, statements}
 use Rattle.book.specs.Sheets.{all_flags}
 use Rattle.book.proofs.Days.{flags_enough}
-use Rattle.journal.specs.Journals.{advances, closes, cut_offs, how_many, says, last_message}
+use Rattle.journal.specs.Journals.{advances, closes, cut_offs, says, last_message}
 use Rattle.journal.specs.Reckoned.{marks_to, penalty_on, penalties, balance_on, balance}
 use Rattle.stage.specs.Rules.{Meaning}
 use Rattle.journal.proofs.Advancing.{ahead_not_after}
@@ -70,11 +70,9 @@ module _ (m : Meaning) (place : Option (Meaning × State)) (form given : List �
   unsaid a slot t = refl
 
   no_advances : advances [] ≡ 0
-  unfolding how_many
   no_advances = refl
 
   no_closes : closes [] ≡ 0
-  unfolding how_many
   no_closes = refl
 
   no_marks : (a : ℕ) → marks_to (terms_of form) [] a 0 ≡ []

@@ -43,7 +43,7 @@ module _ (m : Meaning) (s : State) (w : List ℕ) where
   next Call.advance = (Entry.advance w (advanced m s w).0, (advanced m s w).1, w)
   next (Call.close form rows) =
       (Entry.close form w rows (close_told form rows), if_passed (close_check s w rows form) (day_closed s (balance_today s w form)) s, if_passed (close_told form rows) (replicate (length w) 0) w)
-  next (Call.position group quarter) = (Entry.position w group quarter (position_answer s w group quarter), s, w)
+  next (Call.position_asked group quarter) = (Entry.position_asked w group quarter (position_answer s w group quarter), s, w)
   next (Call.trade from to quarter) = (Entry.trade w from to quarter (trade_answer s w from to quarter), s, w)
   next (Call.standing group day) = (Entry.standing group day (standing_answer m s group day), s, w)
   next (Call.total group) = (Entry.total group (total_answer s group), s, w)
@@ -52,7 +52,7 @@ module _ (m : Meaning) (s : State) (w : List ℕ) where
   handed (Call.submit form) = refl
   handed Call.advance = refl
   handed (Call.close form rows) = refl
-  handed (Call.position group quarter) = refl
+  handed (Call.position_asked group quarter) = refl
   handed (Call.trade from to quarter) = refl
   handed (Call.standing group day) = tt
   handed (Call.total group) = tt
@@ -61,7 +61,7 @@ module _ (m : Meaning) (s : State) (w : List ℕ) where
   called (Call.submit form) = refl
   called Call.advance = refl
   called (Call.close form rows) = refl
-  called (Call.position group quarter) = refl
+  called (Call.position_asked group quarter) = refl
   called (Call.trade from to quarter) = refl
   called (Call.standing group day) = refl
   called (Call.total group) = refl
@@ -93,7 +93,7 @@ module _ (m : Meaning) (s : State) (w : List ℕ) where
       let lent = replicate rows no_row in
       let long = length-replicate rows no_row in
       (lent, (own_itself (close_told form rows) w, long, close_answer form rows lent long, close_state form rows lent long, close_sheet form rows lent long))
-  steps (Call.position group quarter) = (own_itself (position_answer s w group quarter) w, refl, record { book = refl; sheet = refl })
+  steps (Call.position_asked group quarter) = (own_itself (position_answer s w group quarter) w, refl, record { book = refl; sheet = refl })
   steps (Call.trade from to quarter) = (own_itself (trade_answer s w from to quarter) w, refl, record { book = refl; sheet = refl })
   steps (Call.standing group day) = (refl, record { book = refl; sheet = refl })
   steps (Call.total group) = (refl, record { book = refl; sheet = refl })
@@ -106,7 +106,7 @@ module _ (m : Meaning) (s : State) (w : List ℕ) where
       let y = close_state form rows lent long in
       let z = close_sheet form rows lent long in
       cc
-  only_step (Entry.position given group quarter answer) after left (own, p, q) h = cc
+  only_step (Entry.position_asked given group quarter answer) after left (own, p, q) h = cc
   only_step (Entry.trade given from to quarter answer) after left (own, p, q) h = cc
   only_step (Entry.standing group day answer) after left (p, q) h = cc
   only_step (Entry.total group answer) after left (p, q) h = cc

@@ -17,7 +17,7 @@ use Rattle.book.specs.Opens.{new_book}
 use Rattle.book.specs.Queries.{group_check, position_check, position_answer, trade_check, trade_answer, standing_check}
 use Rattle.book.specs.States.{State, size, day_quarters, is_after}
 use Rattle.journal.specs.Books.{Stepped, Brings}
-use Rattle.journal.specs.Journals.{Entry, submit, advance, close, position, trade, standing, total, Journal}
+use Rattle.journal.specs.Journals.{Entry, submit, advance, close, position_asked, trade, standing, total, Journal}
 use Rattle.stage.specs.Rules.{Meaning}
 use Rattle.journal.specs.Theorem.{Right, AllRight}
 use Rattle.journal.proofs.Advancing.{keeps_nearer, keeps_cut_off, day_left}
@@ -108,8 +108,8 @@ module _ (m : Meaning) (terms : Terms) (j : Journal) (s : State) (w : List ℕ) 
       let refused : close_check s given (length lent) form ≡ Err x = refused_by (close_check s given (length lent) form) x _ st.1.2 in
       still (close form given count (Err x)) after left (record { no_advance = refl; no_close = refl; no_message = λ a. refl })
       (st.1.3 ∙ ap (λ v. if_passed v (day_closed s (balance_today s given form)) s) refused) st.1.4
-  step (position given group quarter answer) after left st =
-      still (position given group quarter answer) after left (record { no_advance = refl; no_close = refl; no_message = λ a. refl }) st.2.book st.2.sheet
+  step (position_asked given group quarter answer) after left st =
+      still (position_asked given group quarter answer) after left (record { no_advance = refl; no_close = refl; no_message = λ a. refl }) st.2.book st.2.sheet
   step (trade given from to quarter answer) after left st =
       still (trade given from to quarter answer) after left (record { no_advance = refl; no_close = refl; no_message = λ a. refl }) st.2.book st.2.sheet
   step (standing group day answer) after left st =
@@ -135,10 +135,10 @@ module _ (m : Meaning) (terms : Terms) (j : Journal) (s : State) (w : List ℕ) 
       ∙ ap (λ v. (if_passed {B = Lent} v (record { sheet = replicate (length given) 0; rows = day_rows m s given form }) (record { sheet = given; rows = lent })).rows) passed
       ∙ ap (λ g. day_rows m s g form) own ∙ rows_right m s w j h.keeps form given count x p
   right_own (close form given count (Err x)) after left st = tt
-  right_own (position given group quarter (Ok x)) after left st =
+  right_own (position_asked given group quarter (Ok x)) after left st =
       let told = st.1 ∙ ap (λ g. position_answer s g group quarter) st.0 in
       value_by (position_check s w group quarter) x _ told ∙ position_right m s w j h.keeps group quarter (passed_by (position_check s w group quarter) x _ told)
-  right_own (position given group quarter (Err x)) after left st = tt
+  right_own (position_asked given group quarter (Err x)) after left st = tt
   right_own (trade given from to quarter (Ok x)) after left st =
       let told = st.1 ∙ ap (λ g. trade_answer s g from to quarter) st.0 in
       value_by (trade_check s w from to quarter) x _ told ∙ trade_right m s w j h.keeps from to quarter (passed_by (trade_check s w from to quarter) x _ told)

@@ -235,7 +235,7 @@ questions_go_on m form j x h =
     let same : Unchanged h.book x.sheet h.book x.sheet = record { book = refl; sheet = refl } in (
       λ group quarter.
           let answer = asks_position x.place x.sheet group quarter in
-          asked_too m form j x h (Entry.position x.sheet group quarter answer) (own_itself answer x.sheet, ap (λ p. asks_position p x.sheet group quarter) h.place, same) refl,
+          asked_too m form j x h (Entry.position_asked x.sheet group quarter answer) (own_itself answer x.sheet, ap (λ p. asks_position p x.sheet group quarter) h.place, same) refl,
       λ from to quarter.
           let answer = asks_trade x.place x.sheet from to quarter in
           asked_too m form j x h (Entry.trade x.sheet from to quarter answer) (own_itself answer x.sheet, ap (λ p. asks_trade p x.sheet from to quarter) h.place, same) refl,

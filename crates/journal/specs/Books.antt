@@ -8,7 +8,7 @@ use Rattle.book.specs.Queries.{position_answer, trade_answer, standing_answer, t
 use Rattle.forms.specs.Checks.{answer_if, if_passed}
 use Rattle.book.specs.Rows.{Row}
 use Rattle.book.specs.States.{State}
-use Rattle.journal.specs.Journals.{Entry, submit, advance, close, position, trade, standing, total, Journal}
+use Rattle.journal.specs.Journals.{Entry, submit, advance, close, position_asked, trade, standing, total, Journal}
 use Rattle.stage.specs.Rules.{Meaning}
 
 -- book and sheet are as they were: so a question leaves them
@@ -30,7 +30,7 @@ Stepped m (close form given rows answer) s w after left =
     (lent : List Row)
     × (let o = closed_by m s (record { sheet = given; rows = lent }) form in
     OnOk answer (given ≡ w) × (length lent ≡ rows) × (answer ≡ answer_if o.0 o.2.rows) × (after ≡ o.1) × (left ≡ if_passed answer o.2.sheet w))
-Stepped m (position given group quarter answer) s w after left = OnOk answer (given ≡ w) × (answer ≡ position_answer s given group quarter) × Unchanged s w after left
+Stepped m (position_asked given group quarter answer) s w after left = OnOk answer (given ≡ w) × (answer ≡ position_answer s given group quarter) × Unchanged s w after left
 Stepped m (trade given from to quarter answer) s w after left = OnOk answer (given ≡ w) × (answer ≡ trade_answer s given from to quarter) × Unchanged s w after left
 Stepped m (standing group day answer) s w after left = (answer ≡ standing_answer m s group day) × Unchanged s w after left
 Stepped m (total group answer) s w after left = (answer ≡ total_answer s group) × Unchanged s w after left

@@ -14,7 +14,7 @@ pub data Call : Type 0 where
   -- the closing form, and how many rows are handed in
   close : List ℕ → ℕ → Call
   -- group and quarter hour
-  position : ℕ → ℕ → Call
+  position_asked : ℕ → ℕ → Call
   -- from, to, quarter hour
   trade : ℕ → ℕ → ℕ → Call
   -- group and day
@@ -26,7 +26,7 @@ abbrev pub call_of : Entry → Call
 call_of (Entry.submit form sheet answer) = submit form
 call_of (Entry.advance sheet answer) = advance
 call_of (Entry.close form sheet rows answer) = close form rows
-call_of (Entry.position sheet group quarter answer) = position group quarter
+call_of (Entry.position_asked sheet group quarter answer) = position_asked group quarter
 call_of (Entry.trade sheet from to quarter answer) = trade from to quarter
 call_of (Entry.standing group day answer) = standing group day
 call_of (Entry.total group answer) = total group
@@ -36,7 +36,7 @@ abbrev pub Handed : Entry → List ℕ → Type 0
 Handed (Entry.submit form sheet answer) own = sheet ≡ own
 Handed (Entry.advance sheet answer) own = sheet ≡ own
 Handed (Entry.close form sheet rows answer) own = sheet ≡ own
-Handed (Entry.position sheet group quarter answer) own = sheet ≡ own
+Handed (Entry.position_asked sheet group quarter answer) own = sheet ≡ own
 Handed (Entry.trade sheet from to quarter answer) own = sheet ≡ own
 Handed (Entry.standing group day answer) own = Unit {0}
 Handed (Entry.total group answer) own = Unit {0}

@@ -1,5 +1,5 @@
 -- A journal: what one book was asked since it was opened, and what each call was answered. The newest entry stands first.
-use Rattle.std.specs.Prelude.{ℕ, zero, suc, ◌+◌, ◌-◌, ◌*◌, ◌/◌, Bool, false, cond, ◌&&◌, List, [], ◌∷◌, ℤ, Some, None, Option, Result, is_ok, ◌==◌}
+use Rattle.std.specs.Prelude.{ℕ, zero, suc, ◌+◌, ◌-◌, ◌*◌, ◌/◌, Bool, false, cond, ◌&&◌, List, [], ◌∷◌, ℤ, Some, None, Option, Result, is_ok, count_by, ◌==◌}
 use Rattle.std.specs.Option.{option_or, option_map_or}
 use Rattle.forms.specs.declared.fault.Fault.{Fault}
 use Rattle.forms.specs.Calendar.{quarters}
@@ -19,7 +19,7 @@ pub data Entry : Type 0 where
   -- the closing form, and how many rows were handed in; the answer is the rows
   close : List ℕ → List ℕ → ℕ → Result (List Row) Fault → Entry
   -- group and quarter hour
-  position : List ℕ → ℕ → ℕ → Result (ℤ × ℤ × ℤ) Fault → Entry
+  position_asked : List ℕ → ℕ → ℕ → Result (ℤ × ℤ × ℤ) Fault → Entry
   -- from, to, quarter hour
   trade : List ℕ → ℕ → ℕ → ℕ → Result ℕ Fault → Entry
   -- group and day
@@ -35,7 +35,7 @@ abbrev pub advanced_here : Entry → Bool
 advanced_here (submit form sheet answer) = false
 advanced_here (advance sheet answer) = is_ok answer
 advanced_here (close form sheet rows answer) = false
-advanced_here (position sheet group quarter answer) = false
+advanced_here (position_asked sheet group quarter answer) = false
 advanced_here (trade sheet from to quarter answer) = false
 advanced_here (standing group day answer) = false
 advanced_here (total group answer) = false
@@ -45,22 +45,17 @@ abbrev pub closed_here : Entry → Bool
 closed_here (submit form sheet answer) = false
 closed_here (advance sheet answer) = false
 closed_here (close form sheet rows answer) = is_ok answer
-closed_here (position sheet group quarter answer) = false
+closed_here (position_asked sheet group quarter answer) = false
 closed_here (trade sheet from to quarter answer) = false
 closed_here (standing group day answer) = false
 closed_here (total group answer) = false
 
--- how many entries are such
-unfoldable pub how_many : (Entry → Bool) → Journal → ℕ
-how_many p [] = 0
-how_many p (e ∷ j) = cond (p e) 1 0 + how_many p j
-
 -- accepted advances and accepted closes; every second advance is a cut-off
 abbrev pub advances : Journal → ℕ
-advances j = how_many advanced_here j
+advances j = count_by advanced_here j
 
 abbrev pub closes : Journal → ℕ
-closes j = how_many closed_here j
+closes j = count_by closed_here j
 
 abbrev pub cut_offs : Journal → ℕ
 cut_offs j = advances j / 2
@@ -81,7 +76,7 @@ phase j = phase_of (advances j - 2 * closes j)
 -- the entries before the one that is such and has n such before it
 unfoldable pub before : (Entry → Bool) → ℕ → Journal → Journal
 before p n [] = []
-before p n (e ∷ j) = cond (p e && how_many p j == n) j (before p n j)
+before p n (e ∷ j) = cond (p e && count_by p j == n) j (before p n j)
 
 -- the journal when the cut-off, and the close, of a day was called
 abbrev pub at_cut_off : ℕ → Journal → Journal
@@ -95,7 +90,7 @@ abbrev pub form_in : Entry → List ℕ
 form_in (submit form sheet answer) = []
 form_in (advance sheet answer) = []
 form_in (close form sheet rows answer) = form
-form_in (position sheet group quarter answer) = []
+form_in (position_asked sheet group quarter answer) = []
 form_in (trade sheet from to quarter answer) = []
 form_in (standing group day answer) = []
 form_in (total group answer) = []
@@ -109,7 +104,7 @@ abbrev pub message_in : ℕ → Entry → Option (List ℕ)
 message_in a (submit form sheet answer) = cond (is_ok answer && (said form).group == a + 1) (Some form) None
 message_in a (advance sheet answer) = None
 message_in a (close form sheet rows answer) = None
-message_in a (position sheet group quarter answer) = None
+message_in a (position_asked sheet group quarter answer) = None
 message_in a (trade sheet from to quarter answer) = None
 message_in a (standing group day answer) = None
 message_in a (total group answer) = None

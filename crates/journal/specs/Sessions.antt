@@ -65,7 +65,7 @@ abbrev pub told_of : Entry → Told
 told_of (Entry.submit form sheet answer) = message_told answer
 told_of (Entry.advance sheet answer) = plainly answer
 told_of (Entry.close form sheet rows answer) = close_told (verdict answer)
-told_of (Entry.position sheet group quarter answer) = plainly (verdict answer)
+told_of (Entry.position_asked sheet group quarter answer) = plainly (verdict answer)
 told_of (Entry.trade sheet from to quarter answer) = plainly (verdict answer)
 told_of (Entry.standing group day answer) = plainly (verdict answer)
 told_of (Entry.total group answer) = plainly (verdict answer)
@@ -75,7 +75,7 @@ abbrev pub rows_of : Entry → List Row
 rows_of (Entry.submit form sheet answer) = []
 rows_of (Entry.advance sheet answer) = []
 rows_of (Entry.close form sheet rows answer) = result_unwrap_or answer []
-rows_of (Entry.position sheet group quarter answer) = []
+rows_of (Entry.position_asked sheet group quarter answer) = []
 rows_of (Entry.trade sheet from to quarter answer) = []
 rows_of (Entry.standing group day answer) = []
 rows_of (Entry.total group answer) = []
@@ -113,7 +113,7 @@ StopsChangeNothing most = (x : SessionState) (f : Frame) → told_at most x f �
 abbrev pub QuestionsGoOn : Type 0
 QuestionsGoOn =
     (m : Meaning) (form : List ℕ) (j : Journal) (x : SessionState) → Holds m form j x
-    → ((group quarter : ℕ) → Holds m form (Entry.position x.sheet group quarter (asks_position x.place x.sheet group quarter) ∷ j) x)
+    → ((group quarter : ℕ) → Holds m form (Entry.position_asked x.sheet group quarter (asks_position x.place x.sheet group quarter) ∷ j) x)
     × ((from to quarter : ℕ) → Holds m form (Entry.trade x.sheet from to quarter (asks_trade x.place x.sheet from to quarter) ∷ j) x)
     × ((group day : ℕ) → Holds m form (Entry.standing group day (asks_standing (λ r. r) x.place group day) ∷ j) x)
     × ((group : ℕ) → Holds m form (Entry.total group (asks_total x.place group) ∷ j) x)

@@ -12,7 +12,7 @@ use Rattle.stage.specs.Marked.{Under}
 use Rattle.settlement.specs.Positions.{confirmed, net_purchases, no_farther, positions_by}
 use Rattle.settlement.specs.Sums.{sumℤ}
 use Rattle.journal.specs.Books.{JournalOf}
-use Rattle.journal.specs.Journals.{Entry, submit, advance, close, position, trade, standing, total, Journal, cut_offs, today, says}
+use Rattle.journal.specs.Journals.{Entry, submit, advance, close, position_asked, trade, standing, total, Journal, cut_offs, today, says}
 use Rattle.journal.specs.Reckoned.{open_at, mark, stage, penalties, balance, row, count_beyond}
 use Rattle.stage.specs.Rules.{Meaning}
 
@@ -25,7 +25,7 @@ abbrev pub Right : Meaning → Terms → Entry → Journal → Type 0
 Right m terms (submit form sheet answer) j = Is answer (count_beyond terms (submit form sheet answer ∷ j) ((said form).group - 1))
 Right m terms (advance sheet answer) j = Unit {0}
 Right m terms (close form sheet rows answer) j = Is answer (map (row m terms (close form sheet rows answer ∷ j) (today j)) (range_with_len 0 (group_count terms)))
-Right m terms (position sheet group quarter answer) j = Is answer (positions_by terms (says j) (group - 1) (quarter - 1))
+Right m terms (position_asked sheet group quarter answer) j = Is answer (positions_by terms (says j) (group - 1) (quarter - 1))
 Right m terms (trade sheet from to quarter answer) j = Is answer (confirmed (says j) (quarter - 1) (from - 1) (to - 1))
 Right m terms (standing group day answer) j = Is answer (mark terms j (group - 1) day, stage m terms j (group - 1) day)
 Right m terms (total group answer) j = Is answer (penalties m terms j (group - 1), balance terms j (group - 1))

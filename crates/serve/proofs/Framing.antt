@@ -10,13 +10,12 @@ use Rattle.session.specs.Frames.{frame_head}
 use Rattle.session.specs.Replies.{Told, stop, told_by}
 use Rattle.session.specs.declared.reply.Reply.{Reply}
 use Rattle.session.specs.declared.reply.Reply.TheVariants.{Stop, Refused, Done, Taken, Closed}
-use Rattle.session.specs.Runs.{told_at, session_from}
-use Rattle.session.specs.Steps.{stepped}
+use Rattle.session.specs.Runs.{told_at, state_after, session_from}
 use Rattle.session.specs.Views.{SessionState}
 use Rattle.serve.specs.Held.{Held, to_come}
 use Rattle.serve.specs.Printed.{answer}
-use Rattle.serve.specs.Sessions.{all_taken, stopped, cut, counted_out, frame_of, bytes_of_frames, answers, last_answer, GoesOn, Serves, SessionLeft}
-use Rattle.serve.specs.Taken.{IsFrame, Steps, TakesFrame, FramesMake}
+use Rattle.serve.specs.Sessions.{all_taken, stopped, cut, counted_out, bytes_of_frames, answers, last_answer, GoesOn, Serves, SessionLeft}
+use Rattle.serve.specs.Taken.{frame_of, IsFrame, Steps, TakesFrame, FramesMake}
 
 -- what frames that were taken have made of session, input and output
 pub record Made (most : ℕ) (frames : List (List ℕ)) (x y : SessionState) (held left : Held) (old new : Option (List ℕ)) : Type 0 where
@@ -30,7 +29,7 @@ pub told_more : (most : ℕ) (frames : List (List ℕ)) (x y z : SessionState) (
     → y ≡ session_from most x (map frame_of frames) → (s : Steps most y reply z held left)
     → told_at most (session_from most x (map frame_of frames)) (frame_of s.0) ≡ reply
 told_more most frames x y z reply held left made s =
-    ap (λ v. told_at most v (frame_of s.0)) (sym made) ∙ sym (ap (λ (p : Told × SessionState). p.0) s.3)
+    ap (λ v. told_at most v (frame_of s.0)) (sym made) ∙ sym s.3
 
 -- one frame more, and what is printed for it
 pub made_more : (most : ℕ) (frames : List (List ℕ)) (x y z : SessionState) (reply : Told) (held now left : Held) (old mid new : Option (List ℕ))
@@ -41,7 +40,7 @@ made_more most frames x y z reply held now left old mid new made s printed =
     let told : told_at most (session_from most x (map frame_of frames)) (frame_of frame) ≡ reply =
     told_more most frames x y z reply now left made.session s in
     let after : z ≡ session_from most x (map frame_of (frame ∷ frames)) =
-    ap (λ (p : Told × SessionState). p.1) s.3 ∙ ap (λ v. (stepped most v (slice_index frame 0) (drop frame_head frame)).1) made.session in
+    s.4 ∙ ap (λ v. state_after most v (frame_of frame)) made.session in
     record {
       whole = All-cons IsFrame frame frames s.1 made.whole;
       bytes = Consumes-trans (to_come held) (to_come now) (to_come left) (bytes_of_frames frames) frame made.bytes s.2;

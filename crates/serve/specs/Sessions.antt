@@ -1,19 +1,14 @@
 -- A whole session: frame after frame of an input, what they are answered, and why it ends.
-use Rattle.std.specs.Prelude.{◌≡◌, ◌≢◌, ℕ, ◌-◌, ◌^◌, List, [], ◌∷◌, ◌++◌, ⊤, Option, All, length, map, drop, slice_index}
+use Rattle.std.specs.Prelude.{◌≡◌, ◌≢◌, ℕ, ◌-◌, ◌^◌, List, [], ◌∷◌, ◌++◌, ⊤, Option, All, length, map}
 use Rattle.std.specs.Io.KnownBytes.{Consumes, Appends, IsAtEnd}
-use Rattle.session.specs.Frames.{frame_head}
 use Rattle.session.specs.Replies.{line, stop}
 use Rattle.session.specs.Runs.{Frame, told_at, session_from}
 use Rattle.session.specs.Views.{SessionState}
 use Rattle.serve.specs.Held.{Held, to_come}
 use Rattle.serve.specs.Printed.{answer}
-use Rattle.serve.specs.Taken.{IsFrame, IsCut}
+use Rattle.serve.specs.Taken.{frame_of, IsFrame, IsCut}
 
 -- In each list of frames here the newest stands first, as in the session's runs.
-
--- the frame of these bytes: its letter, and its body behind the head
-abbrev pub frame_of : List ℕ → Frame
-frame_of bytes = record { letter = slice_index bytes 0; body = drop frame_head bytes }
 
 -- the bytes of frames, as they came
 abbrev pub bytes_of_frames : List (List ℕ) → List ℕ

@@ -3,8 +3,7 @@ use Rattle.std.specs.Prelude.{◌≡◌, ℕ, ◌+◌, ◌-◌, ◌<◌, ◌≤�
 use Rattle.std.specs.Io.KnownBytes.{Keeps, Consumes, IsAtEnd}
 use Rattle.session.specs.Frames.{announced, frame_head}
 use Rattle.session.specs.Replies.{Told, stop}
-use Rattle.session.specs.Runs.{Frame, session_from}
-use Rattle.session.specs.Steps.{stepped}
+use Rattle.session.specs.Runs.{Frame, told_at, state_after, session_from}
 use Rattle.session.specs.Views.{SessionState}
 use Rattle.serve.specs.Held.{Held, to_come}
 
@@ -12,11 +11,15 @@ use Rattle.serve.specs.Held.{Held, to_come}
 abbrev pub IsFrame : List ℕ → Type 0
 IsFrame frame = (frame_head ≤ length frame) × (announced (take frame_head frame) ≡ Some (length frame - frame_head))
 
+-- the frame of these bytes: its letter, and its body behind the head
+abbrev pub frame_of : List ℕ → Frame
+frame_of bytes = record { letter = slice_index bytes 0; body = drop frame_head bytes }
+
 -- the bytes of one frame are taken, and a session that serves at most so many groups takes its step by them
 abbrev pub Steps : ℕ → SessionState → Told → SessionState → Held → Held → Type 0
 Steps most before reply after held left =
     (frame : List ℕ) × IsFrame frame × Consumes (to_come held) (to_come left) frame
-    × ((reply, after) ≡ stepped most before (slice_index frame 0) (drop frame_head frame))
+    × (reply ≡ told_at most before (frame_of frame)) × (after ≡ state_after most before (frame_of frame))
 
 -- behind this head the input ends before the body does; where the head announces too much, nothing is said
 abbrev pub BodyIsCut : List ℕ → Held → Type 0

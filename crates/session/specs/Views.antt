@@ -1,7 +1,6 @@
 -- What a session stands for. A rule stands for its meaning.
-use Rattle.std.specs.Prelude.{ℕ, List, map, Some, None, vec_items, Option}
+use Rattle.std.specs.Prelude.{ℕ, List, map, vec_items, Option}
 use Rattle.std.specs.Option.{option_map}
-use Rattle.stage.specs.declared.any_rule.AnyRule.{AnyRule}
 use Rattle.stage.specs.Asked.{meaning_of}
 use Rattle.stage.specs.Rules.{Meaning}
 use Rattle.book.specs.Calls.{Place}
@@ -18,10 +17,5 @@ pub record SessionState : Type 0 where
   pub sheet : List ℕ
   pub rows : List Row
 
--- a place by the meaning of its rule
-abbrev pub by_meaning : Place AnyRule → Place Meaning
-by_meaning None = None
-by_meaning (Some p) = Some (meaning_of p.0, p.1)
-
 abbrev pub view_of : Session → SessionState
-view_of s = record { rule = option_map meaning_of s.rule; place = by_meaning (held_in s.book.inner); sheet = vec_items s.sheet; rows = map row_of (vec_items s.rows) }
+view_of s = record { rule = option_map meaning_of s.rule; place = option_map (λ p. (meaning_of p.0, p.1)) (held_in s.book.inner); sheet = vec_items s.sheet; rows = map row_of (vec_items s.rows) }

@@ -1,7 +1,8 @@
 use Rattle.std.proofs.Common.{◌≡◌, ℕ, List, map, length}
 use Rattle.std.specs.Io.Buffered.{writer_contents}
 use Rattle.session.specs.Views.{view_of}
-use Rattle.serve.specs.Sessions.{GoesOn, frame_of}
+use Rattle.serve.specs.Sessions.{GoesOn}
+use Rattle.serve.specs.Taken.{frame_of}
 use Rattle.serve.proofs.Framing.{Made}
 use Rattle.serve.proofs.service.Service.answer_frames.Given as goal
 

@@ -29,12 +29,14 @@ steps_by_front most before after reply old first whole left head n kept_first ke
     let long : length frame ≡ n = length-take-le n whole.bytes high in
     let letter : slice_index head 0 ≡ slice_index frame 0 =
     ap (λ l. slice_index l 0) (sym heads) ∙ get_or-take frame_head frame 0 0 (omega arith) in
+    let taken = step ∙ ap (λ k. stepped most before k (drop frame_head frame)) letter in
     let all = Keeps-trans (to_come old) (to_come first) (to_come whole) kept_first kept_whole in (
       frame,
       (omega (arith, low, long), ap (λ l. announced l) heads ∙ size ∙ ap (λ k. Some (k - frame_head)) (sym long)),
       subst (λ h. Consumes (to_come old) (to_come h) frame) (sym rest)
           (consumed_front (to_come old) whole.rest whole.bytes frame (drop n whole.bytes) all (sym (take-append-drop n whole.bytes))),
-      step ∙ ap (λ k. stepped most before k (drop frame_head frame)) letter,
+      ap (λ (p : Told × SessionState). p.0) taken,
+      ap (λ (p : Told × SessionState). p.1) taken,
     )
 
 pub returns-clause-step : goal.returns-clause-step
