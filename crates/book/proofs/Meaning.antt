@@ -1,5 +1,6 @@
 -- What the outcome of a message means.
-use Rattle.std.proofs.Common.{◌≡◌, ℕ, ◌+◌, ◌-◌, ◌*◌, ◌/◌, ◌<◌, ◌≤◌, Bool, true, false, cond, eqb, leb, List, length, get_or, set, Some, None, Ok, Err, unwrap_or, sym, refl, ap, ◌∙◌, inl, inr, arith}
+use Rattle.std.proofs.Common.{◌≡◌, ℕ, ◌+◌, ◌-◌, ◌*◌, ◌/◌, ◌<◌, ◌≤◌, Bool, true, false, eqb, leb, List, length, get_or, set, Ok, Err, unwrap_or, sym, refl, ap, ◌∙◌, inl, inr, arith}
+use Rattle.std.specs.Bool.{then_some}
 use Rattle.std.specs.Result.{result_and}
 use Rattle.std.proofs.lemmas.Nat.{mul-add-lt, mul-le}
 use Rattle.std.proofs.lemmas.List.FromFn.{get_or-map-range_with_len}
@@ -51,7 +52,7 @@ module _ (g q own : ℕ) (form sheet : List ℕ) (sent : List Bool) (a : ℕ) (s
       let word =
       get_or-map-range_with_len (word_after g q own form sheet) 0 (length sheet) (place * 96 + t) (place * 96 + t) 0 (omega arith) (omega arith)
       ∙ word_other (place * 96 + t) (omega arith) in
-      λ j. unwrap_or (cond (flag j) (Some (word j)) None) 0
+      λ j. unwrap_or (then_some (flag j) (word j)) 0
 
 module _ (s : State) (sheet form : List ℕ) (accepted : submit_check s sheet form ≡ Ok tt) where
   abbrev after-header : Verdict

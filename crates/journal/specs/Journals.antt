@@ -1,5 +1,6 @@
 -- A journal: what one book was asked since it was opened, and what each call was answered. The newest entry stands first.
-use Rattle.std.specs.Prelude.{ℕ, zero, suc, ◌+◌, ◌-◌, ◌*◌, ◌/◌, Bool, false, cond, ◌&&◌, List, [], ◌∷◌, ℤ, Some, None, Option, Result, is_ok, count_by, ◌==◌}
+use Rattle.std.specs.Prelude.{ℕ, zero, suc, ◌+◌, ◌-◌, ◌*◌, ◌/◌, Bool, false, cond, ◌&&◌, List, [], ◌∷◌, ℤ, None, Option, Result, is_ok, count_by, ◌==◌}
+use Rattle.std.specs.Bool.{then_some}
 use Rattle.std.specs.Option.{option_or, option_map_or}
 use Rattle.forms.specs.declared.fault.Fault.{Fault}
 use Rattle.forms.specs.Calendar.{quarters}
@@ -101,7 +102,7 @@ closing_form day (e ∷ j) = cond (closed_here e && closes j == day - 1) (form_i
 
 -- the message of group a that an entry has, if it was accepted
 abbrev pub message_in : ℕ → Entry → Option (List ℕ)
-message_in a (submit form sheet answer) = cond (is_ok answer && (said form).group == a + 1) (Some form) None
+message_in a (submit form sheet answer) = then_some (is_ok answer && (said form).group == a + 1) form
 message_in a (advance sheet answer) = None
 message_in a (close form sheet rows answer) = None
 message_in a (position_asked sheet group quarter answer) = None

@@ -8,7 +8,7 @@ use Rattle.forms.specs.Figures.{Terms, group_count}
 use Rattle.forms.specs.Openings.{terms_of}
 use Rattle.forms.specs.Slots.{out_to, in_from}
 use Rattle.message.specs.Form.{said}
-use Rattle.stage.specs.Marked.{Under}
+use Rattle.stage.specs.Laws.{Bounded, Monotone}
 use Rattle.settlement.specs.Positions.{confirmed, net_purchases, no_farther, positions_by}
 use Rattle.settlement.specs.Sums.{sumℤ}
 use Rattle.journal.specs.Books.{JournalOf}
@@ -62,8 +62,8 @@ MarksAlone form =
 
 -- The two laws of a lawful stage rule, over the marks of a year at most: no more than a year has days, and marking more of the same days never lowers it.
 pub record Lawful (m : Meaning) : Type 0 where
-  pub bounded : (xs : List Bool) → length xs ≤ year_days → m xs ≤ year_days
-  pub monotone : (xs ys : List Bool) → length xs ≤ year_days → Under xs ys → m xs ≤ m ys
+  pub bounded : Bounded m
+  pub monotone : Monotone m
 
 -- at each cut-off, in each quarter hour, group a's confirmed open position is at least as far from zero in the second journal
 abbrev pub FartherAtCutOffs : Terms → Journal → Journal → ℕ → Type 0

@@ -1,5 +1,6 @@
 -- The sheet of words. Each group in order owns 2g + 3 slots: out to each group, in from each group, CONS, PROD, PUMP.
-use Rattle.std.specs.Prelude.{◌≡◌, ℕ, ◌+◌, ◌-◌, ◌*◌, ◌<◌, ◌≤◌, Bool, false, cond, List, length, Some, None, Option, ◌==◌, nat_lt, slice_index, slice_index_or}
+use Rattle.std.specs.Prelude.{◌≡◌, ℕ, ◌+◌, ◌-◌, ◌*◌, ◌<◌, ◌≤◌, Bool, false, cond, List, length, Option, ◌==◌, nat_lt, slice_index, slice_index_or}
+use Rattle.std.specs.Bool.{then_some}
 use Rattle.std.specs.Option.{unwrap_or}
 use Rattle.forms.specs.Bounds.{most_groups}
 use Rattle.forms.specs.Slots.{Slot, out_to, in_from, cons, prod, pump}
@@ -47,7 +48,7 @@ SlotsApart = (g a b : ℕ) (r s : Slot) → Within g r → Within g s → slot_p
 
 -- what the slot at a place holds at a quarter hour: nothing unless it was sent
 abbrev pub held : List Bool → List ℕ → ℕ → ℕ → Option ℕ
-held sent words place t = cond (slice_index_or sent place false) (Some (slice_index words (place * words_per_slot + t))) None
+held sent words place t = then_some (slice_index_or sent place false) (slice_index words (place * words_per_slot + t))
 
 -- What the groups have sent for a day: of group a, in slot s, at quarter hour t; zero where nothing was sent.
 abbrev pub Statements : Type 0

@@ -1,11 +1,12 @@
 -- The marks of a group's days as a list. Days count from 1: the first mark is that of day 1.
-use Rattle.std.specs.Prelude.{◌≡◌, ℕ, zero, suc, ◌/◌, ◌%◌, ◌^◌, Bool, true, false, List, map, ◌==◌, slice_index, slice_index_or}
+use Rattle.std.specs.Prelude.{◌≡◌, ℕ, zero, suc, ◌/◌, ◌%◌, Bool, true, false, List, map, ◌==◌, slice_index, slice_index_or}
+use Rattle.std.specs.Int.{bit_at}
 use Rattle.std.specs.List.{AllZip, range_with_len}
 use Rattle.stage.specs.declared.marks.Marks.{Marks}
 
 -- bit k of a word
 abbrev pub bit : ℕ → ℕ → Bool
-bit w k = w / 2 ^ k % 2 == 1
+bit w k = bit_at w k == 1
 
 -- bit i of words of 64 bits
 abbrev pub flag : List ℕ → ℕ → Bool

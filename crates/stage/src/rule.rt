@@ -1,7 +1,7 @@
 //! What a stage rule is.
-ghost use Rattle.std.specs.Prelude.{◌≡◌, ℕ, ◌≤◌, Bool, List, length};
-ghost use Rattle.forms.specs.Calendar.{year_days};
-ghost use Rattle.stage.specs.Marked.{marks_of, Under};
+ghost use Rattle.std.specs.Prelude.{◌≡◌, ℕ, Bool, List};
+ghost use Rattle.stage.specs.Laws.{Bounded, Monotone};
+ghost use Rattle.stage.specs.Marked.{marks_of};
 
 use crate::marks::Marks;
 
@@ -15,7 +15,7 @@ pub trait StageRule {
     fn stage(&self, marks: &Marks) -> u16
         ensures { result ≡ meaning self.now (marks_of marks.now) };
 
-    ghost bounded: { (s : Self) (xs : List Bool) → length xs ≤ year_days → meaning s xs ≤ year_days };
+    ghost bounded: { (s : Self) → Bounded (meaning s) };
 
-    ghost monotone: { (s : Self) (xs ys : List Bool) → length xs ≤ year_days → Under xs ys → meaning s xs ≤ meaning s ys };
+    ghost monotone: { (s : Self) → Monotone (meaning s) };
 }
