@@ -3,25 +3,27 @@
 use crate::forms::{Closing, Opening};
 use crate::message::{self, Message, Values};
 use crate::settle::{self, Figures, TariffRow, excess};
-use crate::sheet::{Layout, Slot, Today};
+use crate::sheet::{EveryWord, Layout, SheetTest, Slot, Today};
 use crate::stage::{Marks, Rule};
 use crate::{DAYS, MAX_GROUPS, MAX_ROWS, QUARTERS, Refusal, first_quarter};
 
 /// A place for a book: empty, or with a book in it.
 #[derive(Clone, Debug)]
-pub struct Book {
+pub struct Book<T = EveryWord> {
     ledger: Option<Ledger>,
     /// Where submit decodes a message; no part of the book.
     values: Values,
+    /// What every call that takes the sheet asks of its words; no part of the book.
+    test: T,
 }
 
-impl PartialEq for Book {
-    fn eq(&self, other: &Book) -> bool {
+impl<T> PartialEq for Book<T> {
+    fn eq(&self, other: &Book<T>) -> bool {
         self.ledger == other.ledger
     }
 }
 
-impl Eq for Book {}
+impl<T> Eq for Book<T> {}
 
 /// What submit answers.
 #[derive(Clone, Copy, Debug, PartialEq, Eq)]
@@ -105,16 +107,23 @@ impl Default for Book {
 }
 
 impl Book {
-    /// An empty place.
+    /// An empty place, for sheets that anybody may have written.
     pub const fn empty() -> Book {
-        Book { ledger: None, values: Values::NONE }
+        Book::with_test(EveryWord)
+    }
+}
+
+impl<T: SheetTest> Book<T> {
+    /// An empty place, whose calls ask of the words of a sheet what `test` does.
+    pub const fn with_test(test: T) -> Book<T> {
+        Book { ledger: None, values: Values::NONE, test }
     }
 
     /// Opens a book under a rule, in an empty or a used place.
     pub fn open(&mut self, rule: Rule, form: &[u8], sheet: &mut [u32]) -> Result<(), Refusal> {
         let form = Opening::read(form)?;
         let layout = Layout::new(form.groups());
-        layout.slots_of(sheet)?;
+        layout.slots_of(sheet, self.test)?;
         let figures = form.figures()?;
         let (tariff, rows) = form.tariff()?;
 
@@ -142,7 +151,7 @@ impl Book {
         let layout = ledger.layout;
         let message = Message::read(form)?;
         let limit = ledger.phase.limit().ok_or(Refusal::State)?;
-        let words = layout.slots_of_mut(sheet)?;
+        let words = layout.slots_of_mut(sheet, self.test)?;
         let group = ledger.group(message.group.into())?;
         if message.day != ledger.day {
             return Err(Refusal::Day);
@@ -193,7 +202,7 @@ impl Book {
             Phase::Near => Phase::After,
             Phase::After | Phase::YearOver => return Err(Refusal::State),
         };
-        let words = ledger.layout.slots_of(sheet)?;
+        let words = ledger.layout.slots_of(sheet, self.test)?;
         if next == Phase::After {
             ledger.cut_off(words);
         }
@@ -213,7 +222,7 @@ impl Book {
         if ledger.phase != Phase::After {
             return Err(Refusal::State);
         }
-        let words = ledger.layout.slots_of(sheet)?;
+        let words = ledger.layout.slots_of(sheet, self.test)?;
         if rows.len() != ledger.layout.groups() {
             return Err(Refusal::Sheet);
         }
@@ -251,7 +260,7 @@ impl Book {
         sheet: &[u32],
     ) -> Result<Position, Refusal> {
         let ledger = self.ledger()?;
-        let today = ledger.asked(sheet)?;
+        let today = ledger.asked(sheet, self.test)?;
         let group = ledger.group(group)?;
         let quarter = quarter_of(quarter)?;
         let figures = &ledger.figures[group];
@@ -272,7 +281,7 @@ impl Book {
         sheet: &[u32],
     ) -> Result<u32, Refusal> {
         let ledger = self.ledger()?;
-        let today = ledger.asked(sheet)?;
+        let today = ledger.asked(sheet, self.test)?;
         let (from, to) = (ledger.group(from)?, ledger.group(to)?);
         if from == to {
             return Err(Refusal::Group);
@@ -329,11 +338,11 @@ impl Ledger {
     }
 
     /// The series of the current day for a query. Tests 4 and 5.
-    fn asked<'a>(&'a self, sheet: &'a [u32]) -> Result<Today<'a>, Refusal> {
+    fn asked<'a>(&'a self, sheet: &'a [u32], test: impl SheetTest) -> Result<Today<'a>, Refusal> {
         if self.phase == Phase::YearOver {
             return Err(Refusal::State);
         }
-        Ok(self.today(self.layout.slots_of(sheet)?))
+        Ok(self.today(self.layout.slots_of(sheet, test)?))
     }
 
     fn days_past_cut_off(&self) -> u16 {

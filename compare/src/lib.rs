@@ -3,7 +3,8 @@
 //! implementation, so that the two can be compared.
 //!
 //! [`Rule::read`] makes a rule from its form. [`Book::empty`] is an empty place, and every
-//! other call is a method of [`Book`]. The caller keeps the sheet, a slice of words.
+//! other call is a method of [`Book`]. The caller keeps the sheet, a slice of words. Every call
+//! that takes it tests its words, unless the book was made with [`LengthOnly`].
 //!
 //! Arguments, answers and refusals count groups, days, places and quarter hours from 1, as
 //! the documents do. Within the library groups, slots and quarter hours count from 0.
@@ -21,7 +22,7 @@ mod stage;
 
 pub use book::{Book, Notice, Position, Row, Standing, Total};
 pub use refusal::{Level, Refusal};
-pub use sheet::Layout;
+pub use sheet::{EveryWord, Layout, LengthOnly, SheetTest};
 pub use stage::Rule;
 
 /// Quarter hours of a day.

@@ -1,11 +1,13 @@
 //! A session: frames in, lines out, as FORMS has it for the program `account`.
 //!
-//! [`run`] is the whole program but for its name. Who wants to know more than the lines hands
-//! it a [`Watch`].
+//! [`run`] is the whole program but for its name, and [`Session::answer_all`] the same in a
+//! session of one's own. Who wants to know more than the lines hands it a [`Watch`].
 
 use std::io::{self, BufWriter, Read, Write};
 
-use crate::{Book, Layout, Notice, Position, Refusal, Row, Rule, Standing, Total};
+use crate::{
+    Book, EveryWord, Layout, Notice, Position, Refusal, Row, Rule, SheetTest, Standing, Total,
+};
 
 /// The longest body that is read.
 pub const MAX_BODY: usize = 12_746;
@@ -64,42 +66,16 @@ pub enum Asked {
 /// Nobody watches.
 impl Watch for () {}
 
-/// Answers all frames of the input, for books of up to `most` groups. Ends at the end of the
-/// input or after `STOP`, and hands back the session as it was left.
+/// Answers all frames of the input, for books of up to `most` groups, and hands back the
+/// session as it was left.
 pub fn run(
     input: impl Read,
     output: impl Write,
     most: usize,
     watch: &mut impl Watch,
 ) -> io::Result<Session> {
-    let mut input = Frames::new(input);
-    let mut output = BufWriter::with_capacity(BUFFER, output);
     let mut session = Session::new(most);
-    for _ in 0..u64::MAX {
-        let (letter, answer) = match input.next(&session, &mut output)? {
-            Next::Frame(letter, body) => {
-                let answer = session.answer(letter, body);
-                if let Ok(reply) = &answer {
-                    watch.answered(letter, body, reply);
-                }
-                (Some(letter), answer)
-            }
-            Next::Stop(letter, cause) => (letter, Err(cause)),
-            Next::End => {
-                watch.ended();
-                break;
-            }
-        };
-        match answer {
-            Ok(reply) => print(&mut output, &reply)?,
-            Err(cause) => {
-                watch.stopped(cause, letter);
-                output.write_all(b"STOP\n")?;
-                break;
-            }
-        }
-    }
-    output.flush()?;
+    session.answer_all(input, output, watch)?;
     Ok(session)
 }
 
@@ -127,7 +103,11 @@ impl<R: Read> Frames<R> {
         Frames { input, buffer: vec![0; BUFFER].into(), start: 0, end: 0 }
     }
 
-    fn next(&mut self, session: &Session, output: &mut impl Write) -> io::Result<Next<'_>> {
+    fn next(
+        &mut self,
+        session: &Session<impl SheetTest>,
+        output: &mut impl Write,
+    ) -> io::Result<Next<'_>> {
         if !self.fill(HEADER, output)? {
             let cut = Next::Stop(None, Cause::Cut);
             return Ok(if self.start == self.end { Next::End } else { cut });
@@ -170,24 +150,33 @@ impl<R: Read> Frames<R> {
 }
 
 /// The one place for a book, its sheet, and what was accepted so far.
-pub struct Session {
+pub struct Session<T = EveryWord> {
     /// The most groups that are served.
     most: usize,
     rule: Option<Rule>,
     /// The groups of the book, 0 before it is open.
     groups: usize,
-    book: Book,
+    book: Book<T>,
     sheet: Box<[u32]>,
     rows: Box<[Row]>,
 }
 
 impl Session {
+    /// For books of up to `most` groups.
     pub fn new(most: usize) -> Session {
+        Session::with_test(most, EveryWord)
+    }
+}
+
+impl<T: SheetTest> Session<T> {
+    /// The same with another test of the words of its sheet. Without one the lines are the
+    /// same, since each word comes from a message whose values were tested.
+    pub fn with_test(most: usize, test: T) -> Session<T> {
         Session {
             most,
             rule: None,
             groups: 0,
-            book: Book::empty(),
+            book: Book::with_test(test),
             sheet: vec![0; Layout::new(most).words()].into(),
             rows: vec![Row::default(); most].into(),
         }
@@ -198,13 +187,49 @@ impl Session {
         self.groups
     }
 
-    pub fn book(&self) -> &Book {
+    pub fn book(&self) -> &Book<T> {
         &self.book
     }
 
     /// The sheet of the book.
     pub fn sheet(&self) -> &[u32] {
         &self.sheet[..Layout::new(self.groups).words()]
+    }
+
+    /// Answers all frames of the input. Ends at the end of the input or after `STOP`.
+    pub fn answer_all(
+        &mut self,
+        input: impl Read,
+        output: impl Write,
+        watch: &mut impl Watch,
+    ) -> io::Result<()> {
+        let mut input = Frames::new(input);
+        let mut output = BufWriter::with_capacity(BUFFER, output);
+        for _ in 0..u64::MAX {
+            let (letter, answer) = match input.next(self, &mut output)? {
+                Next::Frame(letter, body) => {
+                    let answer = self.answer(letter, body);
+                    if let Ok(reply) = &answer {
+                        watch.answered(letter, body, reply);
+                    }
+                    (Some(letter), answer)
+                }
+                Next::Stop(letter, cause) => (letter, Err(cause)),
+                Next::End => {
+                    watch.ended();
+                    break;
+                }
+            };
+            match answer {
+                Ok(reply) => print(&mut output, &reply)?,
+                Err(cause) => {
+                    watch.stopped(cause, letter);
+                    output.write_all(b"STOP\n")?;
+                    break;
+                }
+            }
+        }
+        output.flush()
     }
 
     /// Why a frame stops the session by its letter or its length alone, if it does.

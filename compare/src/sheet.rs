@@ -53,23 +53,52 @@ impl Layout {
     }
 
     /// The slots of a sheet, of all groups one after another. Test 5.
-    pub(crate) fn slots_of(self, sheet: &[u32]) -> Result<&[Slot], Refusal> {
-        self.test(sheet)?;
+    pub(crate) fn slots_of(self, sheet: &[u32], test: impl SheetTest) -> Result<&[Slot], Refusal> {
+        self.test(sheet, test)?;
         Ok(sheet.as_chunks().0)
     }
 
     /// The same, to be written.
-    pub(crate) fn slots_of_mut(self, sheet: &mut [u32]) -> Result<&mut [Slot], Refusal> {
-        self.test(sheet)?;
+    pub(crate) fn slots_of_mut(
+        self,
+        sheet: &mut [u32],
+        test: impl SheetTest,
+    ) -> Result<&mut [Slot], Refusal> {
+        self.test(sheet, test)?;
         Ok(sheet.as_chunks_mut().0)
     }
 
-    fn test(self, sheet: &[u32]) -> Result<(), Refusal> {
-        if sheet.len() == self.words() && within_power(sheet) {
-            Ok(())
-        } else {
-            Err(Refusal::Sheet)
-        }
+    fn test(self, sheet: &[u32], test: impl SheetTest) -> Result<(), Refusal> {
+        if sheet.len() == self.words() && test.passes(sheet) { Ok(()) } else { Err(Refusal::Sheet) }
+    }
+}
+
+/// What test 5 asks of the words of a sheet. Its length is tested always.
+///
+/// The choice is one of types, so it costs nothing while a program runs.
+pub trait SheetTest: Copy {
+    /// Whether these words may stand in a sheet.
+    fn passes(self, words: &[u32]) -> bool;
+}
+
+/// Each word is at most the highest power: for a sheet that anybody may have written.
+#[derive(Clone, Copy, Debug)]
+pub struct EveryWord;
+
+impl SheetTest for EveryWord {
+    fn passes(self, words: &[u32]) -> bool {
+        within_power(words)
+    }
+}
+
+/// Nothing: for a sheet that nobody but its book has written since open, each word from a
+/// message whose values were tested.
+#[derive(Clone, Copy, Debug)]
+pub struct LengthOnly;
+
+impl SheetTest for LengthOnly {
+    fn passes(self, _: &[u32]) -> bool {
+        true
     }
 }
 
@@ -220,7 +249,7 @@ mod tests {
     fn places_of_account() {
         let layout = Layout::new(2);
         let sheet: Vec<u32> = (0..layout.words() as u32).collect();
-        let slots = layout.slots_of(&sheet).unwrap();
+        let slots = layout.slots_of(&sheet, EveryWord).unwrap();
         let ends = |group: usize, slot: usize| {
             let slot = slots[group * layout.slots() + slot];
             (slot[0], slot[95])
@@ -236,18 +265,28 @@ mod tests {
     fn every_word_is_tested() {
         let layout = Layout::new(2);
         let mut sheet = vec![MAX_POWER; layout.words()];
-        assert!(layout.slots_of(&sheet).is_ok());
-        assert!(layout.slots_of(&sheet[1..]).is_err());
+        assert!(layout.slots_of(&sheet, EveryWord).is_ok());
+        assert!(layout.slots_of(&sheet[1..], EveryWord).is_err());
         for wrong in [10_000_001, 1 << 31, (1 << 31) + 10_000_000, (1 << 31) + 10_000_001, u32::MAX]
         {
             for at in 0..sheet.len() {
                 sheet[at] = wrong;
-                assert!(layout.slots_of(&sheet).is_err(), "{wrong} at {at}");
+                assert!(layout.slots_of(&sheet, EveryWord).is_err(), "{wrong} at {at}");
                 sheet[at] = MAX_POWER;
             }
         }
         sheet.push(0);
-        assert_eq!(layout.slots_of(&sheet), Err(Refusal::Sheet));
+        assert_eq!(layout.slots_of(&sheet, EveryWord), Err(Refusal::Sheet));
+    }
+
+    #[test]
+    fn only_the_length_is_tested() {
+        let layout = Layout::new(2);
+        let mut sheet = vec![u32::MAX; layout.words() + 1];
+        assert_eq!(layout.slots_of(&sheet, LengthOnly), Err(Refusal::Sheet));
+        assert_eq!(layout.slots_of_mut(&mut sheet[2..], LengthOnly), Err(Refusal::Sheet));
+        assert!(layout.slots_of(&sheet[1..], LengthOnly).is_ok());
+        assert!(layout.slots_of_mut(&mut sheet[1..], LengthOnly).is_ok());
     }
 
     #[test]
@@ -278,7 +317,7 @@ mod tests {
         put(3, 1, 40); // 3 out to 1
         put(1, 6, 40); // 1 in from 3
         put(3, 2, 200); // 3 out to 2, and 2 has sent nothing of it
-        let slots = layout.slots_of(&sheet).unwrap();
+        let slots = layout.slots_of(&sheet, EveryWord).unwrap();
         let today = Today { layout, sent: &sent, slots };
         assert_eq!(today.trade(0, 1, 0), 150);
         assert_eq!(today.trade(2, 0, 95), 40);
@@ -299,7 +338,7 @@ mod tests {
         sheet[index(2, 1, 2, 1)..=index(2, 1, 2, 96)].fill(70); // 1 out to 2, not sent
         sheet[index(2, 2, 5, 1)..=index(2, 2, 5, 96)].fill(70); // 2 CONS, not sent
         let sent = [1 << 3 | 1 << 4, 1 << 0];
-        let slots = layout.slots_of(&sheet).unwrap();
+        let slots = layout.slots_of(&sheet, EveryWord).unwrap();
         let today = Today { layout, sent: &sent, slots };
         for (group, stated, confirmed) in [(0, -700, -750), (1, -150, -150)] {
             assert_eq!(today.stated_check(group, 0), stated);

@@ -3,7 +3,9 @@
 mod common;
 
 use common::*;
-use compare::{Book, Layout, Notice, Position, Refusal, Row, Rule, Standing, Total};
+use compare::{
+    Book, Layout, LengthOnly, Notice, Position, Refusal, Row, Rule, SheetTest, Standing, Total,
+};
 
 const ROLLING_30: Rule = Rule::Rolling(30);
 
@@ -264,35 +266,38 @@ fn order_of_tests() {
     assert_eq!(place.submit(&form), Err(Refusal::Value { place: 2, quarter: 96 }));
 }
 
+/// The sheet is refused, number 5, by every call that takes it: in phase 2 by close, before it
+/// by advance.
+fn refused<T: SheetTest>(book: &mut Book<T>, sheet: &mut Vec<u32>, rows: &mut [Row], phase: u16) {
+    let before = sheet.clone();
+    let unchanged = book.clone();
+    assert_eq!(book.open(ROLLING_30, &sample_opening(), sheet), Err(Refusal::Sheet));
+    assert_eq!(book.submit(&sample_second(9, 9, 1), sheet), Err(Refusal::Sheet));
+    assert_eq!(book.position(9, 97, sheet), Err(Refusal::Sheet));
+    assert_eq!(book.trade(9, 9, 97, sheet), Err(Refusal::Sheet));
+    if phase == 2 {
+        assert_eq!(book.close(&sample_closing(), sheet, rows), Err(Refusal::Sheet));
+    } else {
+        assert_eq!(book.advance(sheet), Err(Refusal::Sheet));
+    }
+    assert!(*book == unchanged && *sheet == before);
+}
+
 /// Number 5: length and every word, by every call that takes the sheet.
 #[test]
 fn the_sheet_is_tested() {
     let mut place = Place::sample();
     let book = &mut place.book;
     let mut rows = [Row::default(); 2];
-    let refused = |book: &mut Book, sheet: &mut Vec<u32>, rows: &mut [Row], after: bool| {
-        let before = sheet.clone();
-        let unchanged = book.clone();
-        assert_eq!(book.open(ROLLING_30, &sample_opening(), sheet), Err(Refusal::Sheet));
-        assert_eq!(book.submit(&sample_second(9, 9, 1), sheet), Err(Refusal::Sheet));
-        assert_eq!(book.position(9, 97, sheet), Err(Refusal::Sheet));
-        assert_eq!(book.trade(9, 9, 97, sheet), Err(Refusal::Sheet));
-        if after {
-            assert_eq!(book.close(&sample_closing(), sheet, rows), Err(Refusal::Sheet));
-        } else {
-            assert_eq!(book.advance(sheet), Err(Refusal::Sheet));
-        }
-        assert!(*book == unchanged && *sheet == before);
-    };
     for phase in 0..3 {
         for length in [0, 1_343, 1_345] {
-            refused(book, &mut vec![0; length], &mut rows, phase == 2);
+            refused(book, &mut vec![0; length], &mut rows, phase);
         }
         for at in [0, 95, 96, 672, 1_000, 1_343] {
             for word in [10_000_001, 1 << 31, u32::MAX] {
                 let mut sheet = vec![10_000_000; 1_344];
                 sheet[at] = word;
-                refused(book, &mut sheet, &mut rows, phase == 2);
+                refused(book, &mut sheet, &mut rows, phase);
             }
         }
         let highest = vec![10_000_000; 1_344];
@@ -312,6 +317,32 @@ fn the_sheet_is_tested() {
     let refusal = Refusal::Value { place: 1, quarter: 1 };
     assert_eq!(book.close(&wrong, sheet, &mut rows), Err(refusal));
     assert_eq!(book.close(&sample_closing(), sheet, &mut rows), Ok(()));
+}
+
+/// Number 5 by a book that tests the length alone.
+#[test]
+fn only_the_length_of_the_sheet_is_tested() {
+    let mut book = Book::with_test(LengthOnly);
+    let mut sheet = vec![u32::MAX; 1_344];
+    let mut rows = [Row::default(); 2];
+    book.open(ROLLING_30, &sample_opening(), &mut sheet).unwrap();
+    assert!(sheet.iter().all(|&word| word == 0));
+    let mut above = vec![10_000_001; 1_344];
+    for phase in 0..3 {
+        for length in [0, 1_343, 1_345] {
+            refused(&mut book, &mut vec![0; length], &mut rows, phase);
+        }
+        let form = sample_second(phase + 1, 1, 0);
+        assert_eq!(book.submit(&form, &mut above), notice(0, 0));
+        assert!(book.position(1, 1, &above).is_ok());
+        assert!(book.trade(1, 2, 1, &above).is_ok());
+        if phase < 2 {
+            book.advance(&above).unwrap();
+        }
+    }
+    let fewer = &mut rows[..1];
+    assert_eq!(book.close(&sample_closing(), &mut above, fewer), Err(Refusal::Sheet));
+    assert_eq!(book.close(&sample_closing(), &mut above, &mut rows), Ok(()));
 }
 
 /// A slot that was not sent counts as zero; a sent one is read from the sheet as given.

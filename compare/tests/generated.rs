@@ -1,8 +1,9 @@
 //! Sessions from a seed: the same each time, and run to their end.
 
 use compare::coverage::Coverage;
-use compare::generate::{garbled, script};
-use compare::session::{Cause, Reply, Watch, run, table};
+use compare::generate::{Script, garbled, script};
+use compare::session::{Cause, Reply, Session, Watch, run, table};
+use compare::{EveryWord, LengthOnly, SheetTest};
 
 #[test]
 fn the_same_for_the_same_seed() {
@@ -31,6 +32,21 @@ fn they_reach_everything() {
     }
     let missing = coverage.missing(true);
     assert!(missing.is_empty(), "{missing:?}");
+}
+
+/// A session lays no word that a test would refuse.
+#[test]
+fn the_same_lines_without_the_test_of_words() {
+    fn lines(frames: &[u8], test: impl SheetTest) -> Vec<u8> {
+        let mut lines = Vec::new();
+        Session::with_test(8, test).answer_all(frames, &mut lines, &mut ()).unwrap();
+        lines
+    }
+    let written = (1..=300).map(|seed| script(seed, false));
+    let changed = (1..=30).map(|seed| garbled(seed, false));
+    for Script { frames, shape, .. } in written.chain(changed) {
+        assert!(lines(&frames, EveryWord) == lines(&frames, LengthOnly), "{shape}");
+    }
 }
 
 /// The generator knows of each written session whether it stops and where.

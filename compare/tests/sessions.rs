@@ -31,8 +31,11 @@ fn frames_of(text: &Path) -> Vec<u8> {
     output.stdout
 }
 
+/// What `second` does, and `second --no-test` in the same way.
 fn second(input: &[u8]) -> Output {
-    program(SECOND, &[], input)
+    let output = program(SECOND, &[], input);
+    assert_eq!(program(SECOND, &["--no-test"], input), output);
+    output
 }
 
 fn program(path: &str, arguments: &[&str], input: &[u8]) -> Output {
@@ -96,6 +99,22 @@ fn stored_sessions() {
         let output = second(&frames);
         assert_eq!(String::from_utf8(output.stdout).unwrap(), expected, "{name}");
         assert!(output.status.success() && output.stderr.is_empty(), "{name}");
+    }
+}
+
+/// Stored bytes without a description.
+#[test]
+fn stored_bytes() {
+    let folder = Path::new(env!("CARGO_MANIFEST_DIR")).join("sessions/random");
+    let paths = fs::read_dir(folder).unwrap().map(|entry| entry.unwrap().path());
+    let stored: Vec<PathBuf> =
+        paths.filter(|path| path.extension().is_some_and(|name| name == "frames")).collect();
+    assert!(stored.len() > 10);
+    for frames in stored {
+        let output = second(&fs::read(&frames).unwrap());
+        let lines = fs::read(frames.with_extension("lines")).unwrap();
+        assert!(output.stdout == lines, "{}", frames.display());
+        assert!(output.status.success() && output.stderr.is_empty(), "{}", frames.display());
     }
 }
 
@@ -219,6 +238,22 @@ TOTAL 2 0 0
          STANDING 1 1 0 0\nSTANDING 1 2 1 1\nTOTAL 1 0 0\nTOTAL 2 0 36000\n"
     );
     assert_eq!(String::from_utf8(output.stdout).unwrap(), expected);
+}
+
+#[test]
+fn arguments_of_second() {
+    let wrong = [&[""][..], &["x"], &["no-test"], &["--no-test="], &["--no-test", "x"]];
+    for wrong in wrong.into_iter().chain([&["--no-test", "--no-test"][..], &["1", "--help"]]) {
+        let output = program(SECOND, wrong, b"x");
+        assert!(!output.status.success() && output.stdout.is_empty(), "{wrong:?}");
+        assert!(String::from_utf8_lossy(&output.stderr).contains("second --help"), "{wrong:?}");
+    }
+    for help in [&["--help"][..], &["--help", "x"]] {
+        let output = program(SECOND, help, b"x");
+        let told = String::from_utf8(output.stdout).unwrap();
+        assert!(output.status.success() && output.stderr.is_empty());
+        assert!(told.starts_with("usage: second ") && told.contains("\n--no-test "));
+    }
 }
 
 #[test]
