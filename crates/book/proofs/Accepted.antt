@@ -4,13 +4,14 @@ use Rattle.std.specs.Option.{option_map, option_or}
 use Rattle.std.proofs.lemmas.List.FromFn.{get_or-map-range_with_len}
 use Rattle.std.proofs.lemmas.Bool.{cases_Bool}
 use Rattle.forms.specs.Figures.{GroupFigures}
-use Rattle.forms.specs.Slots.{Slot, out_to, in_from, cons, kind_of, counter_of}
+use Rattle.forms.specs.Slots.{Slot, out_to, in_from, cons, kind_of, counter_of, Within, slots, slot_number}
 use Rattle.message.specs.Places.{first_of, place_of, sent_in, stated}
 use Rattle.message.proofs.Search.{none_from}
 use Rattle.message.proofs.Stated.{value_missing}
 use Rattle.settlement.specs.Positions.{stated_with, stated_open, excess}
-use Rattle.settlement.specs.Sheets.{Statements, Within, slots, slot_number, slot_place, sheet_size, on_sheet}
-use Rattle.settlement.proofs.Places.{number_below, place_below, slot_again, on_sheet_sent, on_sheet_unsent}
+use Rattle.settlement.specs.Sheets.{Statements, slot_place, sheet_size, on_sheet}
+use Rattle.forms.proofs.SlotNumbers.{number_below, slot_again}
+use Rattle.settlement.proofs.Places.{place_below, on_sheet_sent, on_sheet_unsent}
 use Rattle.settlement.proofs.Sums.{sumℤ-same}
 use Rattle.settlement.specs.Sums.{sumℕ}
 use Rattle.book.specs.Messages.{sent_after, word_after, sheet_after, flags_after, by_message, state_with, beyond_now, beyond_at}

@@ -2,7 +2,8 @@
 use Rattle.std.proofs.Common.{ℕ, ◌+◌, ◌*◌, ◌≤◌, arith, lit≤}
 use Rattle.std.proofs.lemmas.Nat.{mul-le}
 use Rattle.forms.specs.Calendar.{quarters}
-use Rattle.settlement.specs.Sheets.{words_per_slot, slots}
+use Rattle.forms.specs.Slots.{slots}
+use Rattle.settlement.specs.Sheets.{words_per_slot}
 
 pub quarters_fit : (day : ℕ) → quarters day ≤ words_per_slot
 unfolding quarters

@@ -5,7 +5,7 @@ use Rattle.std.proofs.lemmas.List.{get_or_append_left, get_or-append_right, get_
 use Rattle.std.proofs.lemmas.Bool.{cases_lt, lt-ltb, le-ltb, le-leb, lt-leb, and_from, and_left, and_right, cond-true, cond-false}
 use borrow.Rule.Slice.PartMut.{put_mid, mid_of, post_of, same_len_mid}
 use Rattle.message.specs.Places.{sent_in}
-use Rattle.settlement.specs.Sheets.{slots, slot_at}
+use Rattle.forms.specs.Slots.{slots, slot_at}
 use Rattle.book.specs.Messages.{sent_after, flags_after}
 
 module _ (g own : ℕ) (form : List ℕ) (sent : List Bool) where

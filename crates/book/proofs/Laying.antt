@@ -7,8 +7,8 @@ use Rattle.forms.specs.Bytes.{be32}
 use Rattle.message.specs.Form.{series_count}
 use Rattle.message.specs.Places.{first_of, place_under, sent_in, stated}
 use Rattle.message.proofs.Search.{first_none}
-use Rattle.settlement.specs.Sheets.{slots, slot_at}
-use Rattle.book.proofs.Numbering.{is_about}
+use Rattle.forms.specs.Slots.{slots, slot_at}
+use Rattle.message.proofs.Numbering.{is_about}
 use Rattle.book.specs.Messages.{series_laid, owns, own_slot, word_after, sheet_after}
 
 module _ (bytes : List ℕ) (at : ℕ) (sheet : List ℕ) where

@@ -9,8 +9,8 @@ pub mod Flagging
 pub mod Growing
 pub mod Laying
 pub mod Meaning
-pub mod Numbering
 pub mod Powers
 pub mod RowLists
+pub mod Staying
 pub mod Submitting
 pub mod Tariffs

@@ -7,12 +7,13 @@ use Rattle.std.proofs.lemmas.List.FromFn.{get_or-map-range_with_len}
 use Rattle.std.proofs.lemmas.List.{get_or-set_same, get_or-set_other, get_or_past, length-set}
 use Rattle.std.proofs.lemmas.Bool.{cases_eq, cases_lt, eq-eqb, ne_eqb, eqb-true, leb-true, and_parts, cond-true, cond-false}
 use Rattle.forms.specs.Checks.{Verdict, verdict, refuse_if, if_passed}
-use Rattle.forms.specs.Slots.{Slot}
+use Rattle.forms.specs.Slots.{Slot, Within, slots, slot_number}
 use Rattle.forms.specs.declared.fault.Fault.TheVariants.{WrongPhase, WrongBuffer, WrongGroup}
 use Rattle.forms.proofs.Firsts.{passed_left, passed_right, allowed}
 use Rattle.message.specs.Form.{header_of, said}
-use Rattle.settlement.specs.Sheets.{Within, slots, slot_number, slot_place, sheet_size, on_sheet}
-use Rattle.settlement.proofs.Places.{number_below, place_below}
+use Rattle.settlement.specs.Sheets.{slot_place, sheet_size, on_sheet}
+use Rattle.forms.proofs.SlotNumbers.{number_below}
+use Rattle.settlement.proofs.Places.{place_below}
 use Rattle.book.specs.Meant.{MessageStands, MessageFixesNothing}
 use Rattle.book.specs.Messages.{sent_after, word_after, sheet_after, flags_after, submit_check, sender_check, series_check, with_version, state_with, beyond_count}
 use Rattle.std.specs.Int.{is_in_range}

@@ -85,3 +85,7 @@ closed_by m s lent form =
       if_passed check (day_closed s (balance_today s lent.sheet form)) s,
       if_passed check (record { sheet = replicate (length lent.sheet) 0; rows = day_rows m s lent.sheet form }) lent,
     )
+
+-- the same, but for the sheet
+abbrev pub closed_but_sheet : (List Bool → ℕ) → State → Lent → List ℕ → Verdict × State × List Row
+closed_but_sheet m s lent form = let closed = closed_by m s lent form in (closed.0, closed.1, closed.2.rows)

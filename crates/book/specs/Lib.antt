@@ -8,5 +8,7 @@ pub mod Opens
 pub mod Queries
 pub mod Rows
 pub mod Sheets
+pub mod SheetWords
 pub mod States
+pub mod Takes
 pub mod Tallies

@@ -1,9 +1,8 @@
 -- What the outcome of a message means.
 use Rattle.std.specs.Prelude.{◌≡◌, ℕ, ◌-◌, ◌*◌, ◌<◌, ◌≤◌, cond, List, length, Ok, ◌==◌}
-use Rattle.forms.specs.Slots.{Slot}
+use Rattle.forms.specs.Slots.{Slot, Within, slots}
 use Rattle.message.specs.Form.{said}
 use Rattle.message.specs.Places.{stated}
-use Rattle.settlement.specs.Sheets.{Within, slots}
 use Rattle.book.specs.Messages.{submit_check, submitted}
 use Rattle.book.specs.States.{State, size, kept, day_quarters, statements}
 

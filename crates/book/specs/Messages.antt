@@ -6,14 +6,14 @@ use Rattle.forms.specs.declared.fault.Fault.{Fault}
 use Rattle.forms.specs.declared.fault.Fault.TheVariants.{WrongDay, WrongVersion, MissingSeries, GrowingPosition}
 use Rattle.forms.specs.Checks.{Verdict, verdict, refuse_if, each_of, answer_if, if_passed}
 use Rattle.forms.specs.Bytes.{be32}
-use Rattle.forms.specs.Slots.{Slot, cons, prod, pump}
+use Rattle.forms.specs.Slots.{Slot, cons, prod, pump, slots, slot_at}
 use Rattle.message.specs.Form.{Formed, header_of, said}
 use Rattle.message.specs.Heads.{heads_check}
 use Rattle.message.specs.Values.{values_check}
 use Rattle.message.specs.Places.{first_of, sent_in, stated}
 use Rattle.settlement.specs.declared.phase.Phase.TheVariants.{After}
 use Rattle.settlement.specs.Positions.{stated_open, no_farther, beyond_by}
-use Rattle.settlement.specs.Sheets.{Statements, slots, slot_at, words_per_slot}
+use Rattle.settlement.specs.Sheets.{Statements, words_per_slot}
 use Rattle.book.specs.declared.answers.Submitted.{Submitted}
 use Rattle.book.specs.Queries.{day_check, group_check}
 use Rattle.book.specs.States.{State, GroupState, size, figures, kept, today, day_quarters, statements, is_after}

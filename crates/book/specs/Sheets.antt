@@ -2,7 +2,8 @@
 use Rattle.std.specs.Prelude.{ℕ, ◌*◌, Bool, ◌&&◌, List, length, ◌==◌, nat_le}
 use Rattle.std.specs.List.{list_all}
 use Rattle.forms.specs.Bounds.{most_groups, power_bound}
-use Rattle.settlement.specs.Sheets.{slots, sheet_size}
+use Rattle.forms.specs.Slots.{slots}
+use Rattle.settlement.specs.Sheets.{sheet_size}
 
 -- no word is above the bound on powers
 unfoldable pub all_powers : List ℕ → Bool

@@ -1,23 +1,58 @@
 //! Quarter hours beyond the limit.
-ghost use Rattle.std.specs.Prelude.{◌≡◌, ◌^◌, ◌<◌, ◌≤◌, unsigned_abs};
-ghost use Rattle.forms.specs.Figures.{figures_of};
-ghost use Rattle.settlement.specs.Positions.{open_position, is_beyond};
+ghost use Rattle.std.specs.Prelude.{◌≡◌, ◌+◌, ◌<◌, ◌≤◌};
+ghost use Rattle.std.specs.Option.{option_map};
+ghost use Rattle.message.specs.Places.{first_of};
+ghost use Rattle.settlement.specs.Sheets.{words_per_slot};
 ghost use Rattle.book.specs.Messages.{beyond_now};
 ghost use Rattle.book.specs.States.{state_of, size, day_quarters};
-ghost use Rattle.book.specs.Tallies.{tally};
+ghost use Rattle.book.specs.Tallies.{count_where, tally, is_outside_at};
 
 use crate::answers::Submitted;
 use crate::open_day::OpenDay;
-use forms::group::Group;
-use settlement::phase::Phase;
-use settlement::positions::{excess, open_position};
+use settlement::band::Band;
+use settlement::day::DayTrades;
 
-/// Whether the open position of a check value is beyond the phase's limit.
-fn is_beyond(figures: &Group, phase: Phase, check: i64) -> bool
-    requires { unsigned_abs check ≤ 2 ^ 37 }
-    ensures { result ≡ is_beyond (figures_of figures.now) phase (open_position (figures_of figures.now) check) }
+/// How many of the first quarter hours have a check value outside of the band.
+pub(crate) fn count_outside(band: &Band, checks: &DayTrades, quarters: u8) -> u16
+    requires { quarters ≤ words_per_slot }
+    ensures { result ≡ count_where (is_outside_at band.now checks.now) quarters }
 {
-    excess(figures, phase, open_position(figures, check)) > 0
+    // No `filter` and `count`: without a branch in the loop, four quarter hours are taken at a time.
+    let mut outside: u16 = 0;
+    for t in 0..u16::from(quarters) {
+        outside += u16::from(band.is_outside(checks.net(usize::from(t))));
+    }
+    outside
+}
+
+/// The first of them, from 1.
+fn first_outside(band: &Band, checks: &DayTrades, quarters: u8) -> Option<u16>
+    requires { quarters ≤ words_per_slot }
+    ensures { result ≡ option_map (λ t. t + 1) (first_of (is_outside_at band.now checks.now) quarters) }
+{
+    for t in 0..u16::from(quarters) {
+        if band.is_outside(checks.net(usize::from(t))) {
+            return Some(t + 1);
+        }
+    }
+    None
+}
+
+/// How many there are, and the first.
+fn tally_outside(band: &Band, checks: &DayTrades, quarters: u8) -> Submitted
+    requires { quarters ≤ words_per_slot }
+    ensures { (result.beyond, result.first) ≡ tally (is_outside_at band.now checks.now) quarters }
+{
+    let beyond = count_outside(band, checks, quarters);
+    // Only where there are some is the first looked for.
+    if beyond == 0 {
+        return Submitted {
+            beyond,
+            first: None,
+        };
+    }
+    let first = first_outside(band, checks, quarters);
+    Submitted { beyond, first }
 }
 
 impl OpenDay<'_, '_> {
@@ -27,19 +62,8 @@ impl OpenDay<'_, '_> {
         requires { own < size (state_of self.now.ledger.now) }
         ensures { (result.beyond, result.first) ≡ tally (beyond_now (state_of self.now.ledger.now) self.now.sheet.now own) (day_quarters (state_of self.now.ledger.now)) }
     {
-        let figures = self.ledger.figures(own);
-        let day = self.on_sheet();
-        let trades = day.stated_trades(own);
-        // One pass finds both; a chain for each would reckon every position twice.
-        let mut beyond: u16 = 0;
-        let mut first = None;
-        for t in 0..u16::from(self.ledger.quarters()) {
-            let check = day.check_value(&trades, own, t as usize);
-            if is_beyond(&figures, self.ledger.phase, check) {
-                beyond += 1;
-                first = first.or(Some(t + 1));
-            }
-        }
-        Submitted { beyond, first }
+        let band = Band::new(&self.ledger.figures(own), self.ledger.phase);
+        let checks = self.on_sheet().stated_checks(own);
+        tally_outside(&band, &checks, self.ledger.quarters())
     }
 }

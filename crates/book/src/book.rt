@@ -1,8 +1,9 @@
 //! The calls.
 ghost use Rattle.std.specs.Prelude.{◌≡◌, map, is_some, None};
 ghost use Rattle.book.specs.Calls.{submits, advances, closes, asks_position, asks_trade, asks_standing, asks_total, groups_in, days_cut_in};
+ghost use Rattle.book.specs.SheetWords.{words_in};
 ghost use Rattle.book.specs.Messages.{submitted_of};
-ghost use Rattle.book.specs.Opens.{held_in, opened_by};
+ghost use Rattle.book.specs.Opens.{held_in, open_check, opened_by};
 ghost use Rattle.book.specs.Queries.{standing_of, total_of};
 ghost use Rattle.book.specs.Rows.{row_of};
 
@@ -10,7 +11,8 @@ use crate::answers::{Standing, Submitted, Total};
 use crate::ledger::Ledger;
 use crate::opened::Opened;
 use crate::result_row::ResultRow;
-use crate::whole_sheet::{clear, sheet_fits};
+use crate::sheet_words::SheetWords;
+use crate::whole_sheet::clear;
 use forms::fault::Fault;
 use forms::opening::OpeningReader;
 use stage::rule::StageRule;
@@ -36,13 +38,24 @@ impl<R: StageRule> Book<R> {
         R: Copy,
         ensures { (result, held_in self.new.inner, sheet.new) ≡ opened_by (held_in self.old.inner) rule form.now sheet.old }
     {
+        self.begin(rule, form, SheetWords::Lent(sheet))?;
+        clear(sheet);
+        Ok(())
+    }
+
+    /// The same, where the sheet is still to be cleared.
+    pub(crate) fn begin(&mut self, rule: R, form: &[u8], sheet: SheetWords<'_>) -> Result<(), Fault>
+    where
+        R: Copy,
+        ensures answer { result ≡ open_check form.now (words_in sheet.entry) }
+        ensures place { held_in self.new.inner ≡ (opened_by (held_in self.old.inner) rule form.now (words_in sheet.entry)).1 }
+    {
         let form = OpeningReader::new(form).form()?;
-        if !sheet_fits(form.groups() as usize, sheet) {
+        if !sheet.fits(form.groups() as usize) {
             return Err(Fault::WrongBuffer);
         }
         form.check_rows()?;
         let ledger = Ledger::begun(form.opening());
-        clear(sheet);
         self.inner = Some(Opened { rule, ledger });
         Ok(())
     }
@@ -59,7 +72,8 @@ impl<R: StageRule> Book<R> {
         ensures { (submitted_of result, held_in self.new.inner, sheet.new) ≡ submits (held_in self.old.inner) sheet.old form.now }
     {
         let open = self.inner.as_mut().ok_or(Fault::WrongPhase)?;
-        open.submit(form, sheet)
+        let message = open.ledger.accept(form, SheetWords::Lent(sheet))?;
+        Ok(open.ledger.take(&message, sheet))
     }
 
     /// Moves the phase of the day; the second advance of a day is its cut-off.
@@ -67,7 +81,7 @@ impl<R: StageRule> Book<R> {
         ensures { (result, held_in self.new.inner) ≡ advances R.meaning (held_in self.old.inner) sheet.now }
     {
         let open = self.inner.as_mut().ok_or(Fault::WrongPhase)?;
-        open.advance(sheet)
+        open.advance(SheetWords::Lent(sheet))
     }
 
     /// Closes the day and fills a result row for each group.
@@ -80,7 +94,9 @@ impl<R: StageRule> Book<R> {
         ensures { (result, held_in self.new.inner, record { sheet = sheet.new; rows = map row_of rows.new }) ≡ closes R.meaning (held_in self.old.inner) (record { sheet = sheet.old; rows = map row_of rows.old }) form.now }
     {
         let open = self.inner.as_mut().ok_or(Fault::WrongPhase)?;
-        open.close(form, sheet, rows)
+        open.close(form, SheetWords::Lent(sheet), rows)?;
+        clear(sheet);
+        Ok(())
     }
 
     /// Stated open position, confirmed open position and confirmed net purchases of a group at a
@@ -94,7 +110,8 @@ impl<R: StageRule> Book<R> {
         ensures { result ≡ asks_position (held_in self.now.inner) sheet.now group quarter }
     {
         let open = self.inner.as_ref().ok_or(Fault::WrongPhase)?;
-        open.ledger.position(sheet, group, quarter)
+        open.ledger
+            .position(SheetWords::Lent(sheet), group, quarter)
     }
 
     // The numbers of a question come one by one: a struct for them would be made at each call.
@@ -103,7 +120,8 @@ impl<R: StageRule> Book<R> {
         ensures { result ≡ asks_trade (held_in self.now.inner) sheet.now from to quarter }
     {
         let open = self.inner.as_ref().ok_or(Fault::WrongPhase)?;
-        open.ledger.trade(sheet, from, to, quarter)
+        open.ledger
+            .trade(SheetWords::Lent(sheet), from, to, quarter)
     }
 
     /// A group's mark and stage on a day past its cut-off.

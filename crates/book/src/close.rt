@@ -1,8 +1,9 @@
 //! The close of a day.
 ghost use Rattle.std.specs.Prelude.{◌≡◌, ℕ, ◌+◌, ◌*◌, ◌≤◌, map, length, slice_index, unsigned_abs};
 ghost use Rattle.forms.specs.Calendar.{year_days};
-ghost use Rattle.book.specs.Closes.{day_rows, day_done, day_closed, close_check, closed_by};
+ghost use Rattle.book.specs.Closes.{day_rows, day_done, day_closed, close_check, closed_but_sheet};
 ghost use Rattle.book.specs.Kept.{days_in, penalties_in, balance_in, most_balance};
+ghost use Rattle.book.specs.SheetWords.{words_in};
 ghost use Rattle.forms.specs.Checks.{Finds};
 ghost use Rattle.book.specs.Rows.{row_of, amount_in, balance_in_row};
 ghost use Rattle.book.specs.States.{state_of, account_of, size};
@@ -12,11 +13,16 @@ use crate::closing_day::ClosingDay;
 use crate::group_account::GroupAccount;
 use crate::ledger::Ledger;
 use crate::opened::Opened;
+use crate::prices::Prices;
 use crate::result_row::ResultRow;
-use crate::whole_sheet::clear;
+use crate::settled_day::SettledDay;
+use crate::sheet_words::SheetWords;
+use forms::bounds::MOST_GROUPS;
 use forms::closing::ClosingReader;
 use forms::fault::Fault;
+use settlement::confirmed_day::ConfirmedDay;
 use settlement::phase::Phase;
+use settlement::sheet::WORDS_PER_SLOT;
 use stage::rule::StageRule;
 
 impl Ledger {
@@ -24,10 +30,10 @@ impl Ledger {
     fn check_close<'l, 'w, 'f>(
         &'l self,
         form: &'f [u8],
-        sheet: &'w [u32],
+        sheet: SheetWords<'w>,
         rows: usize,
     ) -> Result<ClosingDay<'l, 'w, 'f>, Fault>
-        ensures { Finds result (close_check (state_of self.now) sheet.now rows form.now) (λ c. (c.day.ledger.now ≡ self.now) × (c.day.sheet.now ≡ sheet.now) × (c.form.bytes.now ≡ form.now)) }
+        ensures { Finds result (close_check (state_of self.now) (words_in sheet.entry) rows form.now) (λ c. (c.day.ledger.now ≡ self.now) × (c.day.sheet.now ≡ words_in sheet.entry) × (c.form.bytes.now ≡ form.now)) }
     {
         let form = ClosingReader::new(form, self.groups() as u8, self.quarters()).form()?;
         let Phase::After = self.phase else {
@@ -67,8 +73,23 @@ impl ClosingDay<'_, '_, '_> {
         ensures rows { map row_of rows.new ≡ day_rows (R.meaning rule.now) (state_of self.now.day.ledger.now) self.now.day.sheet.now self.now.form.bytes.now }
         ensures bound { (k : ℕ) → slice_index (map amount_in rows.new) k ≤ most_balance }
     {
+        let ClosingDay { day, form } = *self;
+        let sheet = day.on_sheet();
+        let mut taken = [[0; WORDS_PER_SLOT]; MOST_GROUPS];
+        let mut given = [[0; WORDS_PER_SLOT]; MOST_GROUPS];
+        sheet.add_confirmed(&mut taken, &mut given);
+        let settled = SettledDay {
+            day,
+            form,
+            confirmed: ConfirmedDay {
+                sheet,
+                taken: &taken,
+                given: &given,
+            },
+            prices: &Prices::of(&form, day.ledger.quarters()),
+        };
         for (a, row) in rows.iter_mut().enumerate() {
-            *row = self.result_row(rule, a);
+            *row = settled.result_row(rule, a);
         }
     }
 
@@ -93,20 +114,19 @@ impl ClosingDay<'_, '_, '_> {
 }
 
 impl<R: StageRule> Opened<R> {
-    /// Closes the day: fills the rows, adds the balances, writes zero into the sheet.
+    /// Closes the day: fills the rows and adds the balances. The sheet is still to be cleared.
     pub(crate) fn close(
         &mut self,
         form: &[u8],
-        sheet: &mut [u32],
+        sheet: SheetWords<'_>,
         rows: &mut [ResultRow],
     ) -> Result<(), Fault>
-        ensures book { (result, state_of self.new.ledger, record { sheet = sheet.new; rows = map row_of rows.new }) ≡ closed_by (R.meaning self.old.rule) (state_of self.old.ledger) (record { sheet = sheet.old; rows = map row_of rows.old }) form.now }
+        ensures book { (result, state_of self.new.ledger, map row_of rows.new) ≡ closed_but_sheet (R.meaning self.old.rule) (state_of self.old.ledger) (record { sheet = words_in sheet.entry; rows = map row_of rows.old }) form.now }
         ensures rule { self.new.rule ≡ self.old.rule }
     {
         let closing = self.ledger.check_close(form, sheet, rows.len())?;
         closing.fill_rows(&self.rule, rows);
         self.ledger = closing.next_day(rows);
-        clear(sheet);
         Ok(())
     }
 }

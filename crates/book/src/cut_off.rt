@@ -6,16 +6,21 @@ ghost use Rattle.forms.specs.Openings.{terms_in};
 ghost use Rattle.stage.specs.Marked.{marks_of};
 ghost use Rattle.book.specs.Cuts.{charged, cut_off, in_phase, advanced};
 ghost use Rattle.book.specs.Kept.{most_penalty, days_in, penalties_in};
+ghost use Rattle.book.specs.SheetWords.{words_in};
 ghost use Rattle.book.specs.States.{state_of, account_of};
 
 use crate::group_account::GroupAccount;
 use crate::ledger::Ledger;
 use crate::open_day::OpenDay;
 use crate::opened::Opened;
+use crate::sheet_words::SheetWords;
+use forms::bounds::MOST_GROUPS;
 use forms::fault::Fault;
 use forms::terms::Opening;
 use settlement::amounts::{penalty, row_for};
+use settlement::confirmed_day::ConfirmedDay;
 use settlement::phase::Phase;
+use settlement::sheet::WORDS_PER_SLOT;
 use stage::rule::StageRule;
 
 impl GroupAccount {
@@ -48,11 +53,19 @@ impl OpenDay<'_, '_> {
         ensures { state_of result ≡ cut_off (R.meaning rule.now) (state_of self.now.ledger.now) self.now.sheet.now }
     {
         let ledger = self.ledger;
-        let day = self.on_sheet();
+        let sheet = self.on_sheet();
+        let mut taken = [[0; WORDS_PER_SLOT]; MOST_GROUPS];
+        let mut given = [[0; WORDS_PER_SLOT]; MOST_GROUPS];
+        sheet.add_confirmed(&mut taken, &mut given);
+        let day = ConfirmedDay {
+            sheet,
+            taken: &taken,
+            given: &given,
+        };
         let quarters = ledger.quarters() as usize;
         let mut accounts = ledger.accounts;
         for (a, account) in accounts[..ledger.groups()].iter_mut().enumerate() {
-            let energy = day.day_excess(&ledger.figures(a), a, quarters);
+            let energy = day.excess(&ledger.figures(a), a, quarters);
             *account = ledger.account(a).charged(rule, &ledger.opening, energy);
         }
         let mut next = *ledger;
@@ -76,8 +89,8 @@ impl Ledger {
 
 impl<R: StageRule> Opened<R> {
     /// Moves the phase; the second advance of a day is its cut-off.
-    pub(crate) fn advance(&mut self, sheet: &[u32]) -> Result<(), Fault>
-        ensures book { (result, state_of self.new.ledger) ≡ advanced (R.meaning self.old.rule) (state_of self.old.ledger) sheet.now }
+    pub(crate) fn advance(&mut self, sheet: SheetWords<'_>) -> Result<(), Fault>
+        ensures book { (result, state_of self.new.ledger) ≡ advanced (R.meaning self.old.rule) (state_of self.old.ledger) (words_in sheet.entry) }
         ensures rule { self.new.rule ≡ self.old.rule }
     {
         // The phase is an enum; a table of functions would be no plainer than this match.

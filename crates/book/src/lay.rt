@@ -7,9 +7,10 @@ ghost use Rattle.book.specs.States.{state_of, size, day_quarters};
 
 use crate::ledger::{FLAGS, Ledger};
 use crate::sending::Sending;
+use forms::slot::slots_per_group;
 use message::Message;
 use message::series::Series;
-use settlement::sheet::{WORDS_PER_SLOT, slot_number, slots_per_group};
+use settlement::sheet::WORDS_PER_SLOT;
 
 /// Writes a series into the words of a slot that begins at `at`.
 fn lay_series(series: &Series<'_>, at: usize, sheet: &mut [u32])
@@ -34,7 +35,7 @@ impl Ledger {
         let groups = self.groups();
         for i in 0..message.count() {
             if let Some(series) = message.series(i) {
-                let number = slot_number(groups, series.slot());
+                let number = series.slot().number(groups);
                 let at = self.place(own, number) * WORDS_PER_SLOT;
                 lay_series(&series, at, sheet);
             }
@@ -45,7 +46,7 @@ impl Ledger {
 impl Sending<'_, '_, '_> {
     /// The presence flags once the message is accepted.
     pub(crate) fn flags_after(&self) -> [bool; FLAGS]
-        ensures { result ≡ flags_after (size (state_of self.now.day.ledger.now)) self.now.own self.now.message.bytes.now self.now.day.ledger.now.sent }
+        ensures { result ≡ flags_after (size (state_of self.now.day.ledger.now)) self.now.own self.now.series.message.bytes.now self.now.day.ledger.now.sent }
     {
         let ledger = self.day.ledger;
         let first = ledger.place(self.own, 0);
@@ -53,7 +54,7 @@ impl Sending<'_, '_, '_> {
         let slots = slots_per_group(groups);
         let mut sent = ledger.sent;
         for (number, flag) in sent[first..first + slots].iter_mut().enumerate() {
-            *flag = self.sent[number];
+            *flag = self.series.has_at(number);
         }
         sent
     }

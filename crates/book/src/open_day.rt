@@ -1,17 +1,19 @@
 //! The current day of a ledger, with the sheet that a call is lent.
-ghost use Rattle.std.specs.Prelude.{◌≡◌, length};
+ghost use Rattle.std.specs.Prelude.{◌≡◌, true, length};
 ghost use Rattle.settlement.specs.Sheets.{sheet_size};
+ghost use Rattle.book.specs.Sheets.{all_powers};
 ghost use Rattle.book.specs.States.{state_of, size};
 
 use crate::ledger::Ledger;
 use settlement::sheet::{Sheet, WholeSheet};
 
-/// A ledger, and a sheet that has the length for its groups.
+/// A ledger, and a sheet that has the length for its groups and no word above the bound on powers.
 #[derive(Clone, Copy)]
 pub struct OpenDay<'l, 'w> {
     pub(crate) ledger: &'l Ledger,
     pub(crate) sheet: &'w [u32],
     ghost room: { length sheet.now ≡ sheet_size (size (state_of ledger.now)) },
+    ghost lawful: { all_powers sheet.now ≡ true },
 }
 
 impl<'l, 'w> OpenDay<'l, 'w> {

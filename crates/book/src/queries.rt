@@ -3,12 +3,14 @@ ghost use Rattle.forms.specs.Checks.{refuse_if};
 ghost use Rattle.std.specs.Prelude.{not, ◌≡◌, ◌+◌, ◌<◌};
 ghost use Rattle.book.specs.Kept.{cut_offs};
 ghost use Rattle.std.specs.Int.{is_in_range};
+ghost use Rattle.book.specs.SheetWords.{words_in};
 ghost use Rattle.book.specs.Queries.{Numbered, group_check, quarter_check, position_answer, trade_answer, standing_answer, total_answer, standing_of, total_of};
 ghost use Rattle.book.specs.States.{state_of, size, day_quarters};
 
 use crate::answers::{Standing, Total};
 use crate::ledger::Ledger;
 use crate::opened::Opened;
+use crate::sheet_words::SheetWords;
 use forms::fault::Fault;
 use settlement::phase::Phase;
 use stage::rule::StageRule;
@@ -46,11 +48,11 @@ impl Ledger {
     /// Stated open position, confirmed open position and confirmed net purchases.
     pub(crate) fn position(
         &self,
-        sheet: &[u32],
+        sheet: SheetWords<'_>,
         group: u16,
         quarter: u16,
     ) -> Result<(i64, i64, i64), Fault>
-        ensures { result ≡ position_answer (state_of self.now) sheet.now group quarter }
+        ensures { result ≡ position_answer (state_of self.now) (words_in sheet.entry) group quarter }
     {
         let day = self.open_day(sheet)?;
         let a = self.check_group(group)?;
@@ -62,12 +64,12 @@ impl Ledger {
     /// The confirmed trade from one group to another.
     pub(crate) fn trade(
         &self,
-        sheet: &[u32],
+        sheet: SheetWords<'_>,
         from: u16,
         to: u16,
         quarter: u16,
     ) -> Result<u32, Fault>
-        ensures { result ≡ trade_answer (state_of self.now) sheet.now from to quarter }
+        ensures { result ≡ trade_answer (state_of self.now) (words_in sheet.entry) from to quarter }
     {
         let day = self.open_day(sheet)?;
         let a = self.check_group(from)?;

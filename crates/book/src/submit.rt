@@ -1,30 +1,41 @@
 //! A message.
-ghost use Rattle.std.specs.Prelude.{◌≡◌, ◌-◌, ◌<◌};
+ghost use Rattle.std.specs.Prelude.{◌≡◌, ◌-◌, ◌<◌, Ok};
 ghost use Rattle.message.specs.Form.{said};
-ghost use Rattle.book.specs.Messages.{sender_check, series_check, submit_check, submitted, submitted_of};
+ghost use Rattle.book.specs.SheetWords.{words_in};
+ghost use Rattle.book.specs.Messages.{sender_check, series_check, submit_check, submitted};
+ghost use Rattle.book.specs.Takes.{IsAccepted};
 ghost use Rattle.forms.specs.Checks.{Finds};
 ghost use Rattle.book.specs.States.{state_of, size};
 
 use crate::answers::Submitted;
 use crate::group_account::GroupAccount;
-use crate::ledger::Ledger;
+use crate::growth::Stating;
+use crate::ledger::{FLAGS, Ledger};
 use crate::open_day::OpenDay;
-use crate::opened::Opened;
 use crate::sending::Sending;
-use crate::slots::sent_slots;
+use crate::sheet_words::SheetWords;
 use forms::fault::Fault;
-use message::{Header, MessageReader};
-use stage::rule::StageRule;
+use message::{Header, Message, MessageReader};
+
+/// A message that a book has accepted, the place of its sender, its version, and which slots are sent
+/// once it is taken. The sheet that it was tested on is lent no more, so that it can be written.
+#[derive(Clone, Copy)]
+pub(crate) struct Accepted<'m> {
+    pub(crate) message: Message<'m>,
+    pub(crate) own: usize,
+    pub(crate) version: u16,
+    pub(crate) sent: [bool; FLAGS],
+}
 
 impl Sending<'_, '_, '_> {
     /// The tests of the message's series past their heads.
     fn check_series(&self) -> Result<(), Fault>
-        ensures { result ≡ series_check (state_of self.now.day.ledger.now) self.now.day.sheet.now self.now.own self.now.message.bytes.now }
+        ensures { result ≡ series_check (state_of self.now.day.ledger.now) self.now.day.sheet.now self.now.own self.now.series.message.bytes.now }
     {
         let metered = self.day.ledger.figures(self.own).metered;
         self.check_complete()?;
-        self.message.check_values(metered)?;
-        self.check_growth()
+        self.series.check_values(metered)?;
+        Stating { sending: self }.check_growth()
     }
 }
 
@@ -48,61 +59,61 @@ impl Ledger {
     fn check_message<'l, 'w, 'm>(
         &'l self,
         form: &'m [u8],
-        sheet: &'w [u32],
+        sheet: SheetWords<'w>,
     ) -> Result<Sending<'l, 'w, 'm>, Fault>
-        ensures { Finds result (submit_check (state_of self.now) sheet.now form.now) (λ x. (x.day.ledger.now ≡ self.now) × (x.day.sheet.now ≡ sheet.now) × (x.message.bytes.now ≡ form.now) × (x.own ≡ (said form.now).group - 1) × (x.version ≡ (said form.now).version)) }
+        ensures { Finds result (submit_check (state_of self.now) (words_in sheet.entry) form.now) (λ x. (x.day.ledger.now ≡ self.now) × (x.day.sheet.now ≡ words_in sheet.entry) × (x.series.message.bytes.now ≡ form.now) × (x.own ≡ (said form.now).group - 1) × (x.version ≡ (said form.now).version)) }
     {
         let message = MessageReader::new(form, self.quarters()).message()?;
         let day = self.open_day(sheet)?;
         let header = message.header();
         let own = self.check_sender(header)?;
-        let groups = self.groups();
-        message.check_heads(groups as u8, own as u8)?;
+        let series = message.check_heads(self.groups() as u8, own as u8)?;
         let sending = Sending {
             day,
-            message,
+            series,
             own,
             version: header.version,
-            sent: sent_slots(groups, &message),
         };
         sending.check_series()?;
         Ok(sending)
     }
 
-    /// Takes a message, or refuses it and changes nothing.
-    pub(crate) fn submit(&mut self, form: &[u8], sheet: &mut [u32]) -> Result<Submitted, Fault>
-        ensures { (submitted_of result, state_of self.new, sheet.new) ≡ submitted (state_of self.old) sheet.old form.now }
+    /// The message in these bytes, once it has passed all tests, free of the sheet that is to take it.
+    pub(crate) fn accept<'m>(
+        &self,
+        form: &'m [u8],
+        sheet: SheetWords<'_>,
+    ) -> Result<Accepted<'m>, Fault>
+        ensures { Finds result (submit_check (state_of self.now) (words_in sheet.entry) form.now) (IsAccepted (state_of self.now) form.now) }
     {
         let sending = self.check_message(form, sheet)?;
-        let Sending {
-            message,
-            own,
-            version,
-            ..
-        } = sending;
-        let sent = sending.flags_after();
+        Ok(Accepted {
+            message: sending.series.message(),
+            own: sending.own,
+            version: sending.version,
+            sent: sending.flags_after(),
+        })
+    }
+
+    /// Takes a message that has passed all tests.
+    pub(crate) fn take(&mut self, accepted: &Accepted<'_>, sheet: &mut [u32]) -> Submitted
+        requires passed { submit_check (state_of self.old) sheet.old accepted.now.message.bytes.now ≡ Ok tt }
+        requires accepted { IsAccepted (state_of self.old) accepted.now.message.bytes.now accepted.now }
+        ensures { (Ok (result.beyond, result.first), state_of self.new, sheet.new) ≡ submitted (state_of self.old) sheet.old accepted.now.message.bytes.now }
+    {
+        let own = accepted.own;
         let mut accounts = self.accounts;
         accounts[own] = GroupAccount {
-            version,
+            version: accepted.version,
             ..self.account(own)
         };
-        self.lay(&message, own, sheet);
-        self.sent = sent;
+        self.lay(&accepted.message, own, sheet);
+        self.sent = accepted.sent;
         self.accounts = accounts;
         let day = OpenDay {
             ledger: self,
             sheet,
         };
-        Ok(day.beyond(own))
-    }
-}
-
-impl<R: StageRule> Opened<R> {
-    /// Takes a message, or refuses it and changes nothing.
-    pub(crate) fn submit(&mut self, form: &[u8], sheet: &mut [u32]) -> Result<Submitted, Fault>
-        ensures book { (submitted_of result, state_of self.new.ledger, sheet.new) ≡ submitted (state_of self.old.ledger) sheet.old form.now }
-        ensures rule { self.new.rule ≡ self.old.rule }
-    {
-        self.ledger.submit(form, sheet)
+        day.beyond(own)
     }
 }

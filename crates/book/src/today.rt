@@ -3,8 +3,10 @@ ghost use Rattle.std.specs.Prelude.{◌≡◌, ◌+◌, ◌*◌, ◌<◌, ◌≤
 ghost use Rattle.forms.specs.Bounds.{most_groups};
 ghost use Rattle.book.specs.Sheets.{all_flags};
 ghost use Rattle.forms.specs.Figures.{figures_of};
-ghost use Rattle.settlement.specs.Sheets.{slots, sheet_size, words_per_slot};
+ghost use Rattle.forms.specs.Slots.{slots};
+ghost use Rattle.settlement.specs.Sheets.{sheet_size, words_per_slot};
 ghost use Rattle.book.specs.Kept.{cut_offs, days_in, penalties_in, balance_in, most_penalty, most_balance};
+ghost use Rattle.book.specs.SheetWords.{words_in};
 ghost use Rattle.book.specs.Queries.{day_check};
 ghost use Rattle.forms.specs.Checks.{Finds};
 ghost use Rattle.book.specs.States.{state_of, size, figures, kept, account_of, today, day_quarters, year_over};
@@ -12,11 +14,11 @@ ghost use Rattle.book.specs.States.{state_of, size, figures, kept, account_of, t
 use crate::group_account::GroupAccount;
 use crate::ledger::Ledger;
 use crate::open_day::OpenDay;
-use crate::whole_sheet::sheet_fits;
+use crate::sheet_words::SheetWords;
 use forms::calendar::{DAYS, quarters_of};
 use forms::fault::Fault;
 use forms::group::Group;
-use settlement::sheet::slots_per_group;
+use forms::slot::slots_per_group;
 
 impl Ledger {
     /// How many groups the book has.
@@ -82,18 +84,21 @@ impl Ledger {
 
     /// The day with the sheet that is lent. Refuses when the year is over, or when the sheet does not
     /// fit.
-    pub(crate) fn open_day<'l, 'w>(&'l self, sheet: &'w [u32]) -> Result<OpenDay<'l, 'w>, Fault>
-        ensures { Finds result (day_check (state_of self.now) sheet.now) (λ d. (d.ledger.now ≡ self.now) × (d.sheet.now ≡ sheet.now)) }
+    pub(crate) fn open_day<'l, 'w>(
+        &'l self,
+        sheet: SheetWords<'w>,
+    ) -> Result<OpenDay<'l, 'w>, Fault>
+        ensures { Finds result (day_check (state_of self.now) (words_in sheet.entry)) (λ d. (d.ledger.now ≡ self.now) × (d.sheet.now ≡ words_in sheet.entry)) }
     {
         if self.year_over() {
             return Err(Fault::WrongPhase);
         }
-        if !sheet_fits(self.groups(), sheet) {
+        if !sheet.fits(self.groups()) {
             return Err(Fault::WrongBuffer);
         }
         Ok(OpenDay {
             ledger: self,
-            sheet,
+            sheet: sheet.words(),
         })
     }
 }

@@ -1,10 +1,9 @@
-//! The whole sheet: whether it fits the book, and zero everywhere.
-ghost use Rattle.std.specs.Prelude.{◌≡◌, ◌≤◌, length, replicate, fold, bit_or};
-ghost use Rattle.forms.specs.Bounds.{most_groups};
-ghost use Rattle.book.specs.Sheets.{all_powers, sheet_fits};
+//! The words of a whole sheet: whether they are powers, and zero everywhere.
+ghost use Rattle.std.specs.Prelude.{◌≡◌, length, replicate, fold, bit_or};
+ghost use Rattle.book.specs.Sheets.{all_powers};
 
 use forms::bounds::POWER_BOUND;
-use settlement::sheet::{WORDS_PER_SLOT, sheet_size};
+use settlement::sheet::WORDS_PER_SLOT;
 
 /// These bits, and every bit that stands in some word, in one plain pass.
 fn with_bits(bits: u32, words: &[u32]) -> u32
@@ -35,14 +34,6 @@ pub(crate) fn all_powers(words: &[u32]) -> bool
     ensures { result ≡ all_powers words.now }
 {
     all_bits(words) <= POWER_BOUND || each_within(words)
-}
-
-/// Whether the sheet has the length for so many groups, and no word above the bound on powers.
-pub(crate) fn sheet_fits(groups: usize, sheet: &[u32]) -> bool
-    requires { groups ≤ most_groups }
-    ensures { result ≡ sheet_fits groups sheet.now }
-{
-    sheet.len() == sheet_size(groups) && all_powers(sheet)
 }
 
 /// Zero in each word.

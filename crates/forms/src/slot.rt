@@ -1,8 +1,9 @@
 //! What a series is about.
-ghost use Rattle.std.specs.Prelude.{◌≡◌};
-ghost use Rattle.forms.specs.Slots.{slot_of, kind_of, counter_of};
+ghost use Rattle.std.specs.Prelude.{◌≡◌, ◌<◌, ◌≤◌};
+ghost use Rattle.forms.specs.Bounds.{most_groups};
+ghost use Rattle.forms.specs.Slots.{slot_of, slots, slot_number, Within};
 
-use crate::kind::{CONS, IN, OUT, PROD, PUMP};
+use crate::bounds::MOST_GROUPS;
 
 /// A group's series: trades out to another group, trades in from one, or a forecast.
 /// Groups count from 0 here; in the bytes of a head they count from 1.
@@ -15,28 +16,30 @@ pub enum Slot {
     Pump,
 }
 
-impl Slot {
-    /// The kind by which a head names it.
-    pub fn kind(self) -> u8
-        ensures { result ≡ kind_of (slot_of self) }
-    {
-        match self {
-            Slot::OutTo(_) => OUT,
-            Slot::InFrom(_) => IN,
-            Slot::Cons => CONS,
-            Slot::Prod => PROD,
-            Slot::Pump => PUMP,
-        }
-    }
+/// The most slots that a group has: those of one of 16 groups.
+pub const MOST_SLOTS: usize = 2 * MOST_GROUPS + 3;
 
-    /// The counter by which a head names it: a group from 1, or 0. A head's byte has none for the last
-    /// group that a slot can name.
-    pub fn counter(self) -> u16
-        ensures { result ≡ counter_of (slot_of self) }
+/// How many slots each of `groups` groups has.
+pub fn slots_per_group(groups: usize) -> usize
+    requires { groups ≤ most_groups }
+    ensures { result ≡ slots groups }
+{
+    2 * groups + 3
+}
+
+impl Slot {
+    /// Its place among the slots of one of `groups` groups.
+    pub fn number(self, groups: usize) -> usize
+        requires { (groups ≤ most_groups) × (Within groups (slot_of self)) }
+        ensures value { result ≡ slot_number groups (slot_of self) }
+        ensures bound { result < slots groups }
     {
         match self {
-            Slot::OutTo(group) | Slot::InFrom(group) => u16::from(group) + 1,
-            Slot::Cons | Slot::Prod | Slot::Pump => 0,
+            Slot::OutTo(other) => usize::from(other),
+            Slot::InFrom(other) => groups + usize::from(other),
+            Slot::Cons => 2 * groups,
+            Slot::Prod => 2 * groups + 1,
+            Slot::Pump => 2 * groups + 2,
         }
     }
 }

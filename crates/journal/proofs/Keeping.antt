@@ -5,7 +5,8 @@ use Rattle.forms.specs.Calendar.{quarters}
 use Rattle.forms.specs.Figures.{Terms}
 use Rattle.settlement.specs.declared.phase.Phase.{Phase}
 use Rattle.settlement.specs.declared.phase.Phase.TheVariants.{Ahead, Near, After}
-use Rattle.settlement.specs.Sheets.{slots, sheet_size}
+use Rattle.forms.specs.Slots.{slots}
+use Rattle.settlement.specs.Sheets.{sheet_size}
 use Rattle.settlement.specs.Sums.{sumℕ, sumℤ}
 use Rattle.settlement.proofs.Agreement.{Agree}
 use Rattle.settlement.proofs.Sums.{sumℕ-same, sumℕ-more, sumℤ-same, sumℤ-more}

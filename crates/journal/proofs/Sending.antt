@@ -4,10 +4,9 @@ use Rattle.std.proofs.lemmas.List.FromFn.{length-map-range_with_len}
 use Rattle.std.proofs.lemmas.Bool.{cases_eq, eq-eqb, ne_eqb, cond-true, cond-false}
 use Rattle.forms.specs.declared.fault.Fault.{Fault}
 use Rattle.forms.specs.Calendar.{quarters}
-use Rattle.forms.specs.Slots.{Slot}
+use Rattle.forms.specs.Slots.{Slot, Within}
 use Rattle.message.specs.Form.{said}
 use Rattle.message.specs.Places.{stated}
-use Rattle.settlement.specs.Sheets.{Within}
 use Rattle.book.specs.Messages.{submit_check, submitted, state_with, sheet_after, word_after, flags_after, sent_after, beyond_count}
 use Rattle.book.specs.States.{State, size, kept, day_quarters, statements}
 use Rattle.book.proofs.Meaning.{message_stands, message_fixes_nothing, sender_named}

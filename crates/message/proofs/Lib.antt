@@ -1,4 +1,6 @@
+pub mod AllBits
 pub mod HeadLaws
+pub mod Numbering
 pub mod Passes
 pub mod Search
 pub mod SeriesLaws

@@ -1,8 +1,7 @@
--- A search for the first that meets a test, by the library and by hand, and what it finds.
-use Rattle.std.proofs.Common.{◌≡◌, ℕ, zero, suc, ◌+◌, ◌<◌, Bool, true, false, cond, [], ◌∷◌, ◌++◌, is_some, Some, None, Option, refl, sym, subst, ap, ◌∙◌, inl, inr, add-zero, arith}
-use Rattle.std.specs.List.{range_with_len, find}
-use Rattle.std.specs.Option.{option_map, option_or}
-use Rattle.std.proofs.lemmas.List.Folds.{find-append}
+-- A search for the first that meets a test, and what it finds.
+use Rattle.std.proofs.Common.{◌≡◌, ℕ, zero, suc, ◌+◌, ◌<◌, Bool, true, false, cond, [], ◌∷◌, ◌++◌, is_some, Some, None, Option, refl, sym, subst, ap, ◌∙◌, inl, inr, add-zero, add-one, arith}
+use Rattle.std.specs.List.{range_with_len}
+use Rattle.std.specs.Option.{option_or}
 use Rattle.std.proofs.lemmas.Bool.{cases_order}
 use Rattle.message.specs.Places.{first_of, IsFirst}
 
@@ -10,19 +9,6 @@ use Rattle.message.specs.Places.{first_of, IsFirst}
 pub range_more : (a n : ℕ) → range_with_len a (suc n) ≡ range_with_len a n ++ (a + n) ∷ []
 range_more a zero = ap (λ k. k ∷ []) (sym (add-zero a))
 range_more a (suc n) = ap (λ l. a ∷ l) (range_more (a + 1) n ∙ ap (λ k. range_with_len (a + 1) n ++ k ∷ []) (omega arith))
-
--- the library's search over them
-pub find_first : (test : ℕ → Bool) (n : ℕ) → find test (range_with_len 0 n) ≡ first_of test n
-unfolding first_of
-find_first test zero = refl
-find_first test (suc n) =
-    let last : 0 + n ≡ n = omega arith in
-    ap (find test) (range_more 0 n ∙ ap (λ k. range_with_len 0 n ++ k ∷ []) last) ∙ find-append test (range_with_len 0 n) (n ∷ [])
-    ∙ ap (λ o. option_or o (cond (test n) (Some n) None)) (find_first test n)
-
-pub found_itself : (o : Option ℕ) → option_map (λ (x : ℕ). x) o ≡ o
-found_itself None = refl
-found_itself (Some x) = refl
 
 pub none_from : (o : Option ℕ) → is_some o ≡ false → o ≡ None
 none_from None h = refl
@@ -59,3 +45,12 @@ first_is_first test (suc n) = one_more test n (first_of test n) (test n) refl (f
 -- the same of any answer that is equal to it
 pub first_at : (test : ℕ → Bool) (n : ℕ) (r : Option ℕ) → first_of test n ≡ r → IsFirst test n r
 first_at test n r e = let P : Option ℕ → Type 0 = IsFirst test n in subst P e (first_is_first test n)
+
+-- one more that does not meet it
+or_no : (o : Option ℕ) → option_or o None ≡ o
+or_no (Some k) = refl
+or_no None = refl
+
+pub first_no : (p : ℕ → Bool) (n : ℕ) → p n ≡ false → first_of p (n + 1) ≡ first_of p n
+unfolding first_of
+first_no p n e = rw (add-one n) (rw e (or_no (first_of p n)))

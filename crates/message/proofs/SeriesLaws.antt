@@ -1,13 +1,20 @@
 -- What a series as read says of the message that it is a part of.
-use Rattle.std.proofs.Common.{◌≡◌, ℕ, ◌+◌, ◌*◌, ◌<◌, ◌≤◌, true, false, ◌⊎◌, List, length, Some, None, Ok, sym, refl, ap, ◌∙◌, subst, inl, inr, arith}
-use Rattle.std.proofs.lemmas.Bool.{cases_Bool}
+use Rattle.std.proofs.Common.{◌≡◌, ℕ, ◌+◌, ◌-◌, ◌*◌, ◌<◌, ◌≤◌, true, false, ◌&&◌, eqb, ltb, ◌⊎◌, List, length, Some, None, Ok, sym, refl, ap, ◌∙◌, subst, inl, inr, arith}
+use Rattle.std.proofs.lemmas.Bool.{cases_Bool, cases_eq, and_left, and_right, le-ltb, eqb-true}
 use Rattle.std.proofs.lemmas.Bool.Decides.{nat_tests}
 use Rattle.forms.specs.Bytes.{be32}
+use Rattle.forms.specs.declared.kind.Kind.TheVariants.{Out, In}
+use Rattle.forms.specs.Kinds.{number_of}
+use Rattle.forms.specs.Slots.{Slot, out_to, in_from, cons, prod, pump, Within}
 use Rattle.message.specs.Form.{Formed, series_count, kind_at, counter_at, value_at, values_at}
 use Rattle.message.specs.Read.{SeriesRead, trade, forecast, is_trade, is_forecast, bytes_of, Names, slot_under, slot_read, series_of}
-use Rattle.message.specs.Heads.{heads_check}
+use Rattle.forms.specs.Checks.{each_of}
+use Rattle.message.specs.Heads.{head_check, heads_check}
+use Rattle.message.specs.Places.{place_under, place_of, value_under, stated}
+use Rattle.message.specs.Values.{opposed_check, StatesAtMost, Unopposed}
 use Rattle.message.proofs.Stated.{about}
-use Rattle.message.proofs.HeadLaws.{head_lawful}
+use Rattle.message.proofs.HeadLaws.{head_lawful, heads_lawful, within, stated_about}
+use Rattle.message.proofs.Passes.{ForecastsNothing, refuse_none}
 use Rattle.message.proofs.Spans.{value_of_bytes, length_values}
 
 -- what a forecast is about does not depend on the counter
@@ -67,24 +74,90 @@ module _ (q : ℕ) (s : List ℕ) (i : ℕ) where
     pub slot_told : slot_read x ≡ about s i
     slot_told = elim (either_told x shown) [ inl e ↦ ap slot_read e.1 | inr e ↦ ap slot_read e.1 ∙ forecast_slot (kind_at s i) (counter_at s i) e.0 ]
 
--- Once the heads have passed, each series is there, and a trade names a group.
-module _ (g own q : ℕ) (s : List ℕ) (passed : heads_check g own s ≡ Ok tt) (i : ℕ) (there : i < series_count s) where
+-- Once every head is lawful, each series is there, and a trade names a group.
+module _ (g own q : ℕ) (s : List ℕ) (lawful : each_of (head_check g own s) (series_count s) ≡ Ok tt) (i : ℕ) (there : i < series_count s) where
   pub series_there : series_of q s i ≡ None → ⊥
   series_there h =
       elim (cases_Bool (is_trade (kind_at s i))) [
         | inl e ↦ let d = series_trade q s i e in cc
         | inr e ↦ elim (cases_Bool (is_forecast (kind_at s i))) [
           | inl f ↦ let d = series_forecast q s i e f in cc
-          | inr f ↦ let d = head_lawful g own s passed i there in grind (arith, nat_tests)
+          | inr f ↦ let d = head_lawful g own s lawful i there in grind (arith, nat_tests)
         ]
       ]
 
   trade_named : is_trade (kind_at s i) ≡ true → 1 ≤ counter_at s i
-  trade_named e = let d = head_lawful g own s passed i there in grind (arith, nat_tests)
+  trade_named e = let d = head_lawful g own s lawful i there in grind (arith, nat_tests)
 
   pub names_told : (x : SeriesRead) → series_of q s i ≡ Some x → Names x
   names_told x shown =
       elim (either_told q s i x shown) [
         | inl e ↦ subst Names (sym e.1) (trade_named e.0)
         | inr e ↦ subst Names (sym e.1) tt
+      ]
+
+-- a forecast is of one of the three slots of forecasts
+forecast_of : (P : Slot → Type 0) (kind counter : ℕ) → P cons → P prod → P pump → is_forecast kind ≡ true → P (slot_under kind counter)
+forecast_of P kind counter c d u h =
+    elim (cases_eq kind 3) [
+      | inl e ↦ let is : slot_under kind counter ≡ cons = rw e refl in subst P (sym is) c
+      | inr n ↦ elim (cases_eq kind 4) [
+        | inl e ↦ let is : slot_under kind counter ≡ prod = rw e refl in subst P (sym is) d
+        | inr m ↦ let e : kind ≡ 5 = grind (arith, nat_tests) in let is : slot_under kind counter ≡ pump = rw e refl in subst P (sym is) u
+      ]
+    ]
+
+-- what holds of each slot, one by one
+pub each_slot : (P : Slot → Type 0) (g : ℕ) → ((b : ℕ) → b < g → P (out_to b)) → ((b : ℕ) → b < g → P (in_from b)) → P cons → P prod → P pump
+    → (slot : Slot) → Within g slot → P slot
+each_slot P g outs intos c d u (out_to b) l = outs b l
+each_slot P g outs intos c d u (in_from b) l = intos b l
+each_slot P g outs intos c d u cons l = c
+each_slot P g outs intos c d u prod l = d
+each_slot P g outs intos c d u pump l = u
+
+-- Once the heads have passed, a series has what its message states for its slot.
+module _ (g own q : ℕ) (s : List ℕ) (passed : heads_check g own s ≡ Ok tt) where
+  -- so where nothing stated is above a bound, no value is
+  pub values_within : (b : ℕ) → ((slot : Slot) → Within g slot → StatesAtMost q s slot b) → (i t : ℕ) → i < series_count s → t < q → value_at q s i t ≤ b
+  values_within b low i t there l =
+      omega (arith, low (about s i) (within g own s (heads_lawful g own s passed) i there) t l, stated_about g own s passed q i t there)
+
+  -- and where nothing is stated for the forecasts, none is above 0
+  pub forecasts_zero : ((t : ℕ) → t < q → stated q s cons t ≡ 0) → ((t : ℕ) → t < q → stated q s prod t ≡ 0) → ((t : ℕ) → t < q → stated q s pump t ≡ 0)
+      → ForecastsNothing q s
+  forecasts_zero c d u i t there l =
+      elim (cases_Bool (is_forecast (kind_at s i))) [
+        | inl e ↦
+            let zero = forecast_of (λ slot. stated q s slot t ≡ 0) (kind_at s i) (counter_at s i) (c t l) (d t l) (u t l) e in
+            and_right (is_forecast (kind_at s i)) _ (le-ltb 0 (value_at q s i t) (omega (arith, stated_about g own s passed q i t there, zero)))
+        | inr e ↦ and_left _ _ e
+      ]
+
+-- the counter of a trade out, as read, names a group
+pub counter_of_out : (g own : ℕ) (s : List ℕ) → heads_check g own s ≡ Ok tt → (i : ℕ) → i < series_count s → (counter : ℕ) → number_of Out ≡ kind_at s i → counter ≡ counter_at s i
+    → (1 ≤ counter) × (counter - 1 < g)
+counter_of_out g own s passed i there counter out is =
+    let d = head_lawful g own s (heads_lawful g own s passed) i there in
+    grind (arith, nat_tests)
+
+-- under it the trades in from that group are found
+pub opposite_place : (s : List ℕ) (i counter : ℕ) → counter ≡ counter_at s i → 1 ≤ counter → place_under s (number_of In) (counter_at s i) ≡ place_of s (in_from (counter - 1))
+opposite_place s i counter is named = let e : counter_at s i ≡ counter - 1 + 1 = omega arith in ap (place_under s (number_of In)) e
+
+-- where trades out to a group and in from it are never above 0 at once, no trade out is refused
+module _ (g own q : ℕ) (s : List ℕ) (passed : heads_check g own s ≡ Ok tt) where
+  pub trades_apart : ((b : ℕ) → b < g → Unopposed q s b) → (i t : ℕ) → i < series_count s → t < q → opposed_check q s i t ≡ Ok tt
+  trades_apart h i t there l =
+      elim (cases_Bool (eqb (kind_at s i) (number_of Out))) [
+        | inl e ↦
+            let out : kind_at s i ≡ number_of Out = eqb-true _ _ e in
+            let counter = counter_of_out g own s passed i there (counter_at s i) (sym out) refl in
+            let b = counter_at s i - 1 in
+            let given : stated q s (out_to b) t ≡ value_at q s i t =
+            ap (λ k. stated q s (slot_under k (counter_at s i)) t) (sym out) ∙ stated_about g own s passed q i t there in
+            let taken : stated q s (in_from b) t ≡ value_under q s (number_of In) (counter_at s i) t =
+            ap (λ k. value_under q s (number_of In) k t) (let d : b + 1 ≡ counter_at s i = omega (arith, counter.0) in d) in
+            refuse_none _ _ (and_right (eqb (kind_at s i) (number_of Out)) _ ((λ j. ltb 0 (sym given j) && ltb 0 (sym taken j)) ∙ h b counter.1 t l))
+        | inr e ↦ refuse_none _ _ (and_left _ _ e)
       ]

@@ -31,6 +31,6 @@ once_check s i = refuse_if (repeats s i) (RepeatedHead (i + 1))
 abbrev pub heads_check : ℕ → ℕ → List ℕ → Verdict
 heads_check g own s = result_and (each_of (head_check g own s) (series_count s)) (each_of (once_check s) (series_count s))
 
--- the heads have passed for one of the senders
-abbrev pub HeadsPassed : ℕ → List ℕ → Type 0
-HeadsPassed g s = (own : ℕ) × (heads_check g own s ≡ Ok tt)
+-- every head is lawful for one of the senders
+abbrev pub HeadsLawful : ℕ → List ℕ → Type 0
+HeadsLawful g s = (own : ℕ) × (each_of (head_check g own s) (series_count s) ≡ Ok tt)

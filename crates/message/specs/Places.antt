@@ -1,7 +1,7 @@
 -- Which series of a message is about what, and the values that the message states.
-use Rattle.std.specs.Prelude.{◌≡◌, ℕ, zero, suc, ◌<◌, Bool, true, false, cond, ◌&&◌, List, is_some, Some, None, Option, ◌==◌}
+use Rattle.std.specs.Prelude.{◌≡◌, ℕ, zero, suc, ◌<◌, Bool, true, false, cond, ◌&&◌, List, is_some, Some, None, Option, ◌==◌, slice_index_or}
 use Rattle.std.specs.Option.{option_or, option_map_or}
-use Rattle.forms.specs.Slots.{Slot, kind_of, counter_of}
+use Rattle.forms.specs.Slots.{Slot, kind_of, counter_of, slot_number, Within}
 use Rattle.message.specs.Form.{series_count, kind_at, counter_at, value_at}
 
 -- the first of 0, 1, .., n - 1 that meets the test
@@ -25,6 +25,10 @@ place_under s kind counter = first_of (head_is s kind counter) (series_count s)
 -- the first series that is about this slot
 abbrev pub place_of : List ℕ → Slot → Option ℕ
 place_of s slot = place_under s (kind_of slot) (counter_of slot)
+
+-- a list, by the slots' numbers among g groups, of the first series about each slot
+abbrev pub ListsPlaces : ℕ → List ℕ → List (Option ℕ) → Type 0
+ListsPlaces g s places = (slot : Slot) → Within g slot → slice_index_or places (slot_number g slot) None ≡ place_of s slot
 
 -- the message has a series about this slot
 abbrev pub sent_in : List ℕ → Slot → Bool

@@ -1,14 +1,15 @@
 -- Which values a message may have. Values are powers in kW.
-use Rattle.std.specs.Prelude.{ℕ, ◌+◌, Bool, not, ◌&&◌, List, ◌==◌, nat_lt}
+use Rattle.std.specs.Prelude.{◌≡◌, ℕ, ◌+◌, ◌<◌, ◌≤◌, Bool, false, not, ◌&&◌, List, ◌==◌, nat_lt}
 use Rattle.std.specs.Result.{result_and}
 use Rattle.forms.specs.Bounds.{power_bound}
 use Rattle.forms.specs.declared.kind.Kind.TheVariants.{Out, In}
 use Rattle.forms.specs.Kinds.{number_of}
+use Rattle.forms.specs.Slots.{Slot, out_to, in_from}
 use Rattle.forms.specs.Checks.{Verdict, refuse_if, each_of}
 use Rattle.forms.specs.declared.fault.Fault.TheVariants.{OutOfRange, UnmeteredForecast, OpposedTrades}
 use Rattle.message.specs.Form.{series_count, kind_at, counter_at, value_at}
 use Rattle.message.specs.Read.{is_forecast}
-use Rattle.message.specs.Places.{value_under}
+use Rattle.message.specs.Places.{value_under, stated}
 
 -- a check of series and quarter hours, over the quarter hours of series i
 abbrev pub in_series : ℕ → (ℕ → ℕ → Verdict) → ℕ → Verdict
@@ -32,6 +33,14 @@ forecast_check q metered s i t =
 abbrev pub opposed_check : ℕ → List ℕ → ℕ → ℕ → Verdict
 opposed_check q s i t =
     refuse_if (kind_at s i == number_of Out && (nat_lt 0 (value_at q s i t) && nat_lt 0 (value_under q s (number_of In) (counter_at s i) t))) (OpposedTrades (i + 1) (t + 1))
+
+-- nothing that the message states for this slot is above b
+abbrev pub StatesAtMost : ℕ → List ℕ → Slot → ℕ → Type 0
+StatesAtMost q s slot b = (t : ℕ) → t < q → stated q s slot t ≤ b
+
+-- the trades out to group b and in from it are never above 0 at once
+abbrev pub Unopposed : ℕ → List ℕ → ℕ → Type 0
+Unopposed q s b = (t : ℕ) → t < q → (nat_lt 0 (stated q s (out_to b) t) && nat_lt 0 (stated q s (in_from b) t)) ≡ false
 
 -- these three, each over the whole message
 abbrev pub values_check : ℕ → Bool → List ℕ → Verdict

@@ -9,9 +9,10 @@ ghost use Rattle.std.specs.Prelude.{◌≡◌, ℕ, ◌+◌, ◌*◌, ◌/◌, �
 ghost use Rattle.forms.specs.Bytes.{be32};
 ghost use Rattle.message.specs.Form.{Formed, series_count, said, header_of, head_of, value_at, values_at, values_start};
 
-pub mod find;
+pub mod by_slot;
 pub mod heads;
 mod reader;
+mod scan;
 pub mod series;
 pub mod values;
 
@@ -122,7 +123,7 @@ impl<'a> Message<'a> {
     }
 
     /// The values of series `i`, each in its four bytes.
-    pub fn words(&self, i: u8) -> &'a [[u8; 4]]
+    pub(crate) fn words(&self, i: u8) -> &'a [[u8; 4]]
         requires { i < series_count self.now.bytes.now }
         ensures count { length result.now ≡ self.now.quarters }
         ensures each { (t : ℕ) → t < self.now.quarters → be32 (slice_index_or result.now t []) 0 ≡ value_at self.now.quarters self.now.bytes.now i t }

@@ -18,4 +18,4 @@ pub record SessionState : Type 0 where
   pub rows : List Row
 
 abbrev pub view_of : Session → SessionState
-view_of s = record { rule = option_map meaning_of s.rule; place = option_map (λ p. (meaning_of p.0, p.1)) (held_in s.book.inner); sheet = vec_items s.sheet; rows = map row_of (vec_items s.rows) }
+view_of s = record { rule = option_map meaning_of s.rule; place = option_map (λ p. (meaning_of p.0, p.1)) (held_in s.book.inner); sheet = s.sheet; rows = map row_of (vec_items s.rows) }

@@ -28,14 +28,14 @@ impl Session {
     pub fn position(&self, group: u16, quarter: u16) -> Result<(i64, i64, i64), Fault>
         ensures { result ≡ asks_position (view_of self.now).place (view_of self.now).sheet group quarter }
     {
-        self.book.position(&self.sheet, group, quarter)
+        self.book.position_on(&self.sheet, group, quarter)
     }
 
     /// The confirmed trade from one group to another at a quarter hour.
     pub fn trade(&self, from: u16, to: u16, quarter: u16) -> Result<u32, Fault>
         ensures { result ≡ asks_trade (view_of self.now).place (view_of self.now).sheet from to quarter }
     {
-        self.book.trade(&self.sheet, from, to, quarter)
+        self.book.trade_on(&self.sheet, from, to, quarter)
     }
 
     /// A group's mark and stage on a day past its cut-off.

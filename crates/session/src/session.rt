@@ -1,5 +1,6 @@
 //! What lasts from frame to frame.
 use book::book::Book;
+use book::lawful_sheet::LawfulSheet;
 use book::result_row::ResultRow;
 use stage::any_rule::AnyRule;
 
@@ -11,6 +12,6 @@ pub const ACCOUNT_GROUPS: u8 = 8;
 pub struct Session {
     pub(crate) rule: Option<AnyRule>,
     pub(crate) book: Book<AnyRule>,
-    pub(crate) sheet: Vec<u32>,
+    pub(crate) sheet: LawfulSheet,
     pub(crate) rows: Vec<ResultRow>,
 }

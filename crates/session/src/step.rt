@@ -2,7 +2,6 @@
 ghost use Rattle.std.specs.Prelude.{◌≡◌, ◌≤◌, map, replicate, is_some, IfOk, None, MatchResult, false};
 ghost use Rattle.forms.specs.Bounds.{most_groups};
 ghost use Rattle.stage.specs.Asked.{rule_asked};
-ghost use Rattle.settlement.specs.Sheets.{sheet_size};
 ghost use Rattle.book.specs.Rows.{row_of, no_row};
 ghost use Rattle.session.specs.Letters.{code_of};
 ghost use Rattle.session.specs.declared.letter.Letter.TheVariants.{Opening};
@@ -16,10 +15,10 @@ use crate::letter::Letter;
 use crate::reply::Reply;
 use crate::session::Session;
 use book::book::Book;
+use book::lawful_sheet::LawfulSheet;
 use book::result_row::ResultRow;
 use forms::bounds;
 use forms::fault::Fault;
-use settlement::sheet::sheet_size;
 use stage::any_rule::rule;
 use std::alloc::{AllocError, Global};
 
@@ -42,14 +41,6 @@ fn groups_served(most: u8, body: &[u8]) -> usize
         .unwrap_or(0)
 }
 
-/// A sheet for so many groups, with zero everywhere.
-fn blank_sheet(heap: Global, groups: usize) -> Result<Vec<u32>, AllocError>
-    requires { groups ≤ most_groups }
-    ensures { IfOk result (λ v. v.items ≡ replicate (sheet_size groups) 0) }
-{
-    vec![in heap; 0u32; sheet_size(groups)]
-}
-
 /// Result rows for so many groups, with nothing in them.
 fn blank_rows(heap: Global, groups: usize) -> Result<Vec<ResultRow>, AllocError>
     ensures { IfOk result (λ v. map row_of v.items ≡ replicate groups no_row) }
@@ -65,7 +56,7 @@ impl Session {
         Session {
             rule: None,
             book: Book::empty(),
-            sheet: Vec::new(heap),
+            sheet: LawfulSheet::empty(heap),
             rows: Vec::new(heap),
         }
     }
@@ -112,9 +103,9 @@ impl Session {
             return Ok(Ok(Reply::Stop));
         };
         let groups = groups_served(most, body);
-        let mut sheet = blank_sheet(heap, groups)?;
+        let mut sheet = LawfulSheet::blank(heap, groups)?;
         let rows = blank_rows(heap, groups)?;
-        let opened = self.book.open(chosen, body, &mut sheet);
+        let opened = self.book.open_on(chosen, body, &mut sheet);
         if opened.is_ok() {
             self.sheet = sheet;
             self.rows = rows;
@@ -125,21 +116,21 @@ impl Session {
     fn submit(&mut self, body: &[u8]) -> Result<Reply, Fault>
         ensures { (told_in result, view_of self.new) ≡ message_sent (view_of self.old) body.now }
     {
-        let answer = self.book.submit(body, &mut self.sheet)?;
+        let answer = self.book.submit_on(body, &mut self.sheet)?;
         Ok(Reply::Taken(answer))
     }
 
     fn advance(&mut self) -> Result<Reply, Fault>
         ensures { (told_in result, view_of self.new) ≡ phase_moved (view_of self.old) }
     {
-        self.book.advance(&self.sheet)?;
+        self.book.advance_on(&self.sheet)?;
         Ok(Reply::Done)
     }
 
     fn close(&mut self, body: &[u8]) -> Result<Reply, Fault>
         ensures { (told_in result, view_of self.new) ≡ day_ended (view_of self.old) body.now }
     {
-        self.book.close(body, &mut self.sheet, &mut self.rows)?;
+        self.book.close_on(body, &mut self.sheet, &mut self.rows)?;
         Ok(Reply::Closed)
     }
 

@@ -1,9 +1,9 @@
 -- Where two days' statements agree, so do their trades, positions and amounts.
 use Rattle.std.proofs.Common.{◌≡◌, ℕ, ◌<◌, cond, eqb, ℤ, pos, ◌+ℤ◌, ◌-ℤ◌, refl, ap}
 use Rattle.forms.specs.Figures.{GroupFigures}
-use Rattle.forms.specs.Slots.{Slot, out_to, in_from, cons}
+use Rattle.forms.specs.Slots.{Slot, out_to, in_from, cons, Within}
 use Rattle.settlement.specs.declared.phase.Phase.TheVariants.{After}
-use Rattle.settlement.specs.Sheets.{Statements, Within}
+use Rattle.settlement.specs.Sheets.{Statements}
 use Rattle.settlement.specs.Positions.{confirmed, confirmed_with, stated_with, net_purchases, stated_open, confirmed_open, excess, day_excess}
 use Rattle.settlement.specs.Amounts.{imbalance_cost, day_cost}
 use Rattle.settlement.proofs.Sums.{sumℕ-same, sumℤ-same}

@@ -4,5 +4,6 @@ pub mod Adding
 pub mod Trading
 pub mod Excesses
 pub mod Agreement
+pub mod Bands
 pub mod Laws
 pub mod WorkedAmounts

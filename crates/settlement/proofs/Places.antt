@@ -1,32 +1,13 @@
 -- A place among all slots names one group and one slot of it.
 use Rattle.std.proofs.Common.{◌≡◌, ℕ, ◌+◌, ◌*◌, ◌/◌, ◌%◌, ◌<◌, min, Bool, true, false, List, get_or, sym, refl, ap, ◌∙◌, arith}
 use Rattle.std.proofs.lemmas.Nat.{mul-add-lt, div-mul-add, mod-mul-add}
-use Rattle.std.proofs.lemmas.Bool.Decides.{nat_tests}
-use Rattle.forms.specs.Slots.{Slot, out_to, in_from, cons, prod, pump}
+use Rattle.forms.specs.Slots.{Slot, out_to, in_from, slots, slot_number, slot_at, Within}
+use Rattle.forms.proofs.SlotNumbers.{number_below, slot_again}
 use Rattle.settlement.specs.Positions.{confirmed}
-use Rattle.settlement.specs.Sheets.{words_per_slot, slots, slot_number, slot_at, slot_place, Within, SlotsApart, on_sheet}
-
-pub number_below : (g : ℕ) (s : Slot) → Within g s → slot_number g s < slots g
-number_below g (out_to b) h = omega arith
-number_below g (in_from b) h = omega arith
-number_below g cons h = omega arith
-number_below g prod h = omega arith
-number_below g pump h = omega arith
+use Rattle.settlement.specs.Sheets.{words_per_slot, slot_place, SlotsApart, on_sheet}
 
 pub place_below : (g a : ℕ) (s : Slot) → a < g → Within g s → slot_place g a s < g * slots g
 place_below g a s l h = omega (arith, mul-add-lt a (slots g) (slot_number g s) g l (number_below g s h))
-
--- the slot of a slot's number
-pub slot_again : (g : ℕ) (s : Slot) → Within g s → slot_at g (slot_number g s) ≡ s
-slot_again g (out_to b) h = grind (arith, nat_tests)
-slot_again g (in_from b) h = grind (arith, nat_tests)
-slot_again g cons h = grind (arith, nat_tests)
-slot_again g prod h = grind (arith, nat_tests)
-slot_again g pump h = grind (arith, nat_tests)
-
--- and the number of a number's slot
-pub number_again : (g n : ℕ) → n < slots g → slot_number g (slot_at g n) ≡ n
-number_again g n l = grind (arith, nat_tests)
 
 pub slots_apart : SlotsApart
 slots_apart g a b r s h k e =

@@ -47,6 +47,12 @@ unfolding sumℤ
 sumℤ-sub f g zero = refl
 sumℤ-sub f g (suc n) = rw (sumℤ-sub f g n) (omega (arith, ints))
 
+-- a sum of differences of numbers
+pub sumℤ-differences : (f h : ℕ → ℕ) (d : ℕ → ℤ) (n : ℕ) → ((k : ℕ) → pos (f k) -ℤ pos (h k) ≡ d k) → pos (sumℕ f n) -ℤ pos (sumℕ h n) ≡ sumℤ d n
+unfolding sumℕ sumℤ
+sumℤ-differences f h d zero each = refl
+sumℤ-differences f h d (suc n) each = omega (arith, ints, sumℤ-differences f h d n each, each n)
+
 sumℤ-zero : (n : ℕ) → sumℤ (λ _. pos 0) n ≡ pos 0
 unfolding sumℤ
 sumℤ-zero zero = refl

@@ -2,11 +2,12 @@
 use Rattle.std.proofs.Common.{◌≡◌, ℕ, ◌+◌, cond, eqb, ℤ, pos, ◌+ℤ◌, ◌-ℤ◌, refl, ◌∙◌, arith}
 use Rattle.std.proofs.lemmas.Int.{ints}
 use Rattle.std.proofs.lemmas.Bool.{eq-eqb, ne_eqb}
+use Rattle.std.proofs.lemmas.Bool.Decides.{nat_tests}
 use Rattle.forms.specs.Slots.{out_to, in_from}
 use Rattle.settlement.specs.Sheets.{Statements}
-use Rattle.settlement.specs.Sums.{with_others}
-use Rattle.settlement.specs.Positions.{confirmed, confirmed_with, stated_with}
-use Rattle.settlement.proofs.Sums.{sumℤ-none, sumℤ-more}
+use Rattle.settlement.specs.Sums.{sumℕ, with_others}
+use Rattle.settlement.specs.Positions.{confirmed, given_to, confirmed_with, stated_with, net_purchases}
+use Rattle.settlement.proofs.Sums.{sumℤ-none, sumℤ-more, sumℤ-differences}
 
 -- a sum that leaves one term out
 pub others_none : (f : ℕ → ℤ) (a : ℕ) → with_others f a 0 ≡ pos 0
@@ -42,3 +43,24 @@ module _ (S : Statements) (t a : ℕ) where
   pub confirmed_skip : (n : ℕ) → n ≡ a → confirmed_with S t a (n + 1) ≡ confirmed_with S t a n
   unfolding confirmed_with
   confirmed_skip n h = others_skip (λ b. pos (confirmed S t b a) -ℤ pos (confirmed S t a b)) a n h
+
+-- what is given to a group: to another, and to the group itself
+module _ (S : Statements) (t a b : ℕ) where
+  pub given_to-other : (b ≡ a → ⊥) → given_to S t a b ≡ confirmed S t a b
+  unfolding given_to
+  given_to-other h = grind (arith, nat_tests)
+
+  pub given_to-itself : b ≡ a → given_to S t a b ≡ 0
+  unfolding given_to
+  given_to-itself h = grind (arith, nat_tests)
+
+-- what is given between two groups, in less out
+between : (S : Statements) (t a b : ℕ) → pos (given_to S t b a) -ℤ pos (given_to S t a b) ≡ cond (eqb b a) (pos 0) (pos (confirmed S t b a) -ℤ pos (confirmed S t a b))
+unfolding given_to
+between S t a b = grind (arith, ints, nat_tests)
+
+-- net purchases are what is given to a group less what it gives
+pub net_by_given : (S : Statements) (g t a : ℕ) → pos (sumℕ (λ b. given_to S t b a) g) -ℤ pos (sumℕ (given_to S t a) g) ≡ net_purchases S g t a
+unfolding confirmed_with
+net_by_given S g t a =
+    sumℤ-differences (λ b. given_to S t b a) (given_to S t a) (λ b. cond (eqb b a) (pos 0) (pos (confirmed S t b a) -ℤ pos (confirmed S t a b))) g (between S t a)

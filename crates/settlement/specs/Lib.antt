@@ -3,6 +3,7 @@ pub mod Statements
 pub mod Sums
 pub mod Days
 pub mod Positions
+pub mod Bands
 pub mod Amounts
 pub mod Laws
 pub mod WorkedAmounts

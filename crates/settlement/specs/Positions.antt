@@ -1,15 +1,20 @@
 -- Trades, check values, open positions and excesses, of what the groups have sent. Powers are whole kW.
-use Rattle.std.specs.Prelude.{ℕ, ◌-◌, min, Bool, cond, ℤ, pos, ◌+ℤ◌, ◌-ℤ◌, neg_ℤ, int_lt, nat_le, nat_lt, unsigned_abs}
+use Rattle.std.specs.Prelude.{◌≡◌, ℕ, ◌-◌, ◌<◌, min, Bool, cond, List, ℤ, pos, ◌+ℤ◌, ◌-ℤ◌, neg_ℤ, ◌==◌, int_lt, nat_le, nat_lt, unsigned_abs}
 use Rattle.forms.specs.Slots.{out_to, in_from, cons}
 use Rattle.forms.specs.Figures.{GroupFigures, Terms, group_count, figures_at}
 use Rattle.settlement.specs.declared.phase.Phase.{Phase}
 use Rattle.settlement.specs.declared.phase.Phase.TheVariants.{Ahead, Near, After}
-use Rattle.settlement.specs.Sheets.{Statements}
+use Rattle.settlement.specs.Days.{day_net, sums_of}
+use Rattle.settlement.specs.Sheets.{Statements, words_per_slot}
 use Rattle.settlement.specs.Sums.{sumℕ, with_others}
 
 -- the confirmed trade from group a to group b: the lower of a's out and b's in
 unfoldable pub confirmed : Statements → ℕ → ℕ → ℕ → ℕ
 confirmed S t a b = min (S a (out_to b) t) (S b (in_from a) t)
+
+-- what group a gives to group b: the confirmed trade, and nothing to itself
+unfoldable pub given_to : Statements → ℕ → ℕ → ℕ → ℕ
+given_to S t a b = cond (a == b) 0 (confirmed S t a b)
 
 -- Group a's trades with the first n groups, itself left out: in less out. Confirmed, and as a itself has stated them.
 unfoldable pub confirmed_with : Statements → ℕ → ℕ → ℕ → ℤ
@@ -21,6 +26,11 @@ stated_with S t a n = with_others (λ b. pos (S a (in_from b) t) -ℤ pos (S a (
 -- confirmed net purchases of group a among g groups
 abbrev pub net_purchases : Statements → ℕ → ℕ → ℕ → ℤ
 net_purchases S g t a = confirmed_with S t a g
+
+-- these sums, for each of g groups, are its confirmed trades of a day: what it takes less what it gives are its net purchases
+abbrev pub AreConfirmed : Statements → ℕ → List (List ℕ) → List (List ℕ) → Type 0
+AreConfirmed S g taken given =
+    (a t : ℕ) → a < g → t < words_per_slot → day_net (sums_of taken a) (sums_of given a) t ≡ net_purchases S g t a
 
 -- the check value: trades in, less trades out, less the consumption forecast
 abbrev pub stated_check : Statements → ℕ → ℕ → ℕ → ℤ

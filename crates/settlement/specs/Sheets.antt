@@ -1,42 +1,16 @@
--- The sheet of words. Each group in order owns 2g + 3 slots: out to each group, in from each group, CONS, PROD, PUMP.
-use Rattle.std.specs.Prelude.{◌≡◌, ℕ, ◌+◌, ◌-◌, ◌*◌, ◌<◌, ◌≤◌, Bool, false, cond, List, length, Option, ◌==◌, nat_lt, slice_index, slice_index_or}
+-- The sheet of words: the slots of each group in order.
+use Rattle.std.specs.Prelude.{◌≡◌, ℕ, ◌+◌, ◌*◌, ◌≤◌, Bool, false, List, length, Option, slice_index, slice_index_or}
 use Rattle.std.specs.Bool.{then_some}
 use Rattle.std.specs.Option.{unwrap_or}
-use Rattle.forms.specs.Bounds.{most_groups}
-use Rattle.forms.specs.Slots.{Slot, out_to, in_from, cons, prod, pump}
+use Rattle.forms.specs.Bounds.{most_groups, power_bound}
+use Rattle.forms.specs.Slots.{Slot, slots, slot_number, Within}
 
 -- words of a slot, one for each quarter hour of the longest day
 abbrev pub words_per_slot : ℕ
 words_per_slot = 96
 
--- slots of a group, of g groups
-abbrev pub slots : ℕ → ℕ
-slots g = 2 * g + 3
-
 abbrev pub sheet_size : ℕ → ℕ
 sheet_size g = g * slots g * words_per_slot
-
--- the place of a slot among its group's
-abbrev pub slot_number : ℕ → Slot → ℕ
-slot_number g (out_to b) = b
-slot_number g (in_from b) = g + b
-slot_number g cons = 2 * g
-slot_number g prod = 2 * g + 1
-slot_number g pump = 2 * g + 2
-
--- the slot of a number, below 2g + 3, among a group's slots
-abbrev pub slot_at : ℕ → ℕ → Slot
-slot_at g n =
-    cond (nat_lt n g) (out_to n)
-    (cond (nat_lt n (2 * g)) (in_from (n - g)) (cond (n == 2 * g) cons (cond (n == 2 * g + 1) prod pump)))
-
--- a slot that is there: the group it names is one of the g
-abbrev pub Within : ℕ → Slot → Type 0
-Within g (out_to b) = b < g
-Within g (in_from b) = b < g
-Within g cons = Unit {0}
-Within g prod = Unit {0}
-Within g pump = Unit {0}
 
 -- the place of slot s of group a in the whole sheet
 abbrev pub slot_place : ℕ → ℕ → Slot → ℕ
@@ -58,8 +32,9 @@ Statements = ℕ → Slot → ℕ → ℕ
 unfoldable pub on_sheet : ℕ → List Bool → List ℕ → Statements
 on_sheet g sent words a s t = unwrap_or (held sent words (slot_place g a s) t) 0
 
--- a sheet and its presence flags for g groups
+-- a sheet and its presence flags for g groups, and no word above the bound on powers
 pub record SheetOf (g : ℕ) (sent : List Bool) (words : List ℕ) : Type 0 where
   pub few : g ≤ most_groups
   pub flags : g * slots g ≤ length sent
   pub room : length words ≡ sheet_size g
+  pub low : (k : ℕ) → slice_index words k ≤ power_bound

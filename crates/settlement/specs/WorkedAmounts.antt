@@ -1,9 +1,9 @@
 -- Worked figures of positions, trades, penalties and balance amounts.
 use Rattle.std.specs.Prelude.{◌≡◌, ℕ, ◌*◌, Bool, true, false, cond, ◌&&◌, replicate, ℤ, pos, neg_ℤ, ◌==◌, slice_set}
-use Rattle.forms.specs.Slots.{out_to, in_from, cons, prod, pump}
+use Rattle.forms.specs.Slots.{out_to, in_from, cons, prod, pump, slots}
 use Rattle.forms.specs.Figures.{GroupFigures}
 use Rattle.settlement.specs.declared.phase.Phase.TheVariants.{After}
-use Rattle.settlement.specs.Sheets.{Statements, slots, sheet_size, slot_place, on_sheet}
+use Rattle.settlement.specs.Sheets.{Statements, sheet_size, slot_place, on_sheet}
 use Rattle.settlement.specs.Positions.{confirmed, open_position, excess}
 use Rattle.settlement.specs.Amounts.{penalty, balance_amount}
 

@@ -1,12 +1,9 @@
 //! Penalties and balance amounts, in whole cents.
-ghost use Rattle.std.specs.Prelude.{◌≡◌, ◌*◌, ◌^◌, ◌<◌, ◌≤◌, map, length, ◌+ℤ◌, ◌*ℤ◌, unsigned_abs};
-ghost use Rattle.forms.specs.Bounds.{power_bound, rate_bound, price_bound};
+ghost use Rattle.std.specs.Prelude.{◌≡◌, ◌*◌, ◌^◌, ◌<◌, ◌≤◌, map, length, ◌*ℤ◌, unsigned_abs};
+ghost use Rattle.forms.specs.Bounds.{rate_bound, price_bound};
 ghost use Rattle.forms.specs.Figures.{rates_of};
-ghost use Rattle.settlement.specs.Sheets.{words_per_slot};
-ghost use Rattle.settlement.specs.Days.{day_net};
 ghost use Rattle.settlement.specs.Amounts.{most_imbalance, row_for, penalty as penalty_for, to_cents, imbalance_cost};
 
-use crate::day::DayTrades;
 use forms::group::TariffRow;
 
 /// 4000 kW over a quarter hour are a MWh.
@@ -53,25 +50,11 @@ fn product(imbalance: i64, price: i32) -> i64
 }
 
 /// What an imbalance costs at its price, in 4000ths of a cent: short below zero, long above.
-fn imbalance_cost(imbalance: i64, long: i32, short: i32) -> i64
+pub(crate) fn imbalance_cost(imbalance: i64, long: i32, short: i32) -> i64
     requires { (unsigned_abs imbalance ≤ most_imbalance) × ((unsigned_abs long ≤ price_bound) × (unsigned_abs short ≤ price_bound)) }
     ensures value { result ≡ imbalance_cost imbalance long short }
     ensures bound { unsigned_abs result ≤ most_imbalance * price_bound }
 {
     let price = if imbalance < 0 { short } else { long };
     -product(imbalance, price)
-}
-
-impl DayTrades {
-    /// What the imbalance of the group whose trades these are costs in the quarter hour `t`, in 4000ths of
-    /// a cent, by its metered feed-in in kW and the prices in cents per MWh. Below zero it is a credit.
-    pub fn quarter_cost(&self, t: usize, feed: i32, long: i32, short: i32) -> i64
-        requires within { t < words_per_slot }
-        requires lawful { (unsigned_abs feed ≤ power_bound) × ((unsigned_abs long ≤ price_bound) × (unsigned_abs short ≤ price_bound)) }
-        ensures value { result ≡ imbalance_cost (day_net self.now.taken self.now.given t +ℤ feed) long short }
-        ensures bound { unsigned_abs result ≤ most_imbalance * price_bound }
-    {
-        let imbalance = self.net(t) + i64::from(feed);
-        imbalance_cost(imbalance, long, short)
-    }
 }

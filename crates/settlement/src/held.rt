@@ -1,7 +1,7 @@
 //! What stands in a whole sheet.
 ghost use Rattle.std.specs.Prelude.{◌≡◌, ◌<◌};
-ghost use Rattle.forms.specs.Slots.{slot_of};
-ghost use Rattle.settlement.specs.Sheets.{words_per_slot, slot_place, Within, held};
+ghost use Rattle.forms.specs.Slots.{slot_of, Within};
+ghost use Rattle.settlement.specs.Sheets.{words_per_slot, slot_place, held};
 ghost use Rattle.settlement.specs.Statements.{sent_on};
 
 use crate::sheet::{WORDS_PER_SLOT, WholeSheet, slot_place};

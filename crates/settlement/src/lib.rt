@@ -2,6 +2,8 @@
 #![tactic(auto)]
 
 pub mod amounts;
+pub mod band;
+pub mod confirmed_day;
 pub mod day;
 pub mod held;
 pub mod phase;

@@ -1,14 +1,10 @@
 //! Open positions and how far they lie beyond a limit.
-ghost use Rattle.std.specs.Prelude.{◌≡◌, ◌*◌, ◌^◌, ◌<◌, ◌≤◌, pos, ◌-ℤ◌, unsigned_abs};
+ghost use Rattle.std.specs.Prelude.{◌≡◌, ◌^◌, ◌<◌, ◌≤◌, unsigned_abs};
 ghost use Rattle.forms.specs.Figures.{figures_of};
-ghost use Rattle.forms.specs.Slots.{cons};
-ghost use Rattle.settlement.specs.declared.phase.Phase.TheVariants.{After};
-ghost use Rattle.settlement.specs.Days.{day_net};
 ghost use Rattle.settlement.specs.Sheets.{words_per_slot};
 ghost use Rattle.settlement.specs.Statements.{sent_on};
-ghost use Rattle.settlement.specs.Positions.{net_purchases, open_position, stated_open, confirmed_open, limit_for, excess, no_farther, day_excess};
+ghost use Rattle.settlement.specs.Positions.{net_purchases, open_position, stated_open, confirmed_open, limit_for, excess, no_farther};
 
-use crate::day::DayTrades;
 use crate::phase::Phase;
 use crate::sheet::WholeSheet;
 use crate::trades::TradeSums;
@@ -78,28 +74,5 @@ impl WholeSheet<'_, '_> {
             open_position(figures, confirmed - consumption),
             confirmed,
         )
-    }
-
-    // One turn of the sum below, so it is given all that the sum has.
-    /// How far group `a`'s confirmed open position lies beyond its limit, by its confirmed trades of the day.
-    fn confirmed_excess(&self, figures: &Group, trades: &DayTrades, a: usize, t: usize) -> u64
-        requires { (a < self.now.groups) × (t < words_per_slot) }
-        ensures value { result ≡ excess (figures_of figures.now) After (open_position (figures_of figures.now) (day_net trades.now.taken trades.now.given t -ℤ pos (sent_on self.now a cons t))) }
-        ensures bound { result ≤ 2 ^ 37 }
-    {
-        let confirmed = open_position(figures, self.check_value(trades, a, t));
-        excess(figures, Phase::After, confirmed)
-    }
-
-    /// The sum of the excesses of group `a`'s confirmed open position over the day's `q` quarter hours.
-    pub fn day_excess(&self, figures: &Group, a: usize, q: usize) -> u64
-        requires { (a < self.now.groups) × (q ≤ words_per_slot) }
-        ensures value { result ≡ day_excess (sent_on self.now) (figures_of figures.now) self.now.groups a q }
-        ensures bound { result ≤ 2 ^ 37 * q }
-    {
-        let trades = self.confirmed_trades(a);
-        (0..q)
-            .map(|t| self.confirmed_excess(figures, &trades, a, t))
-            .sum()
     }
 }

@@ -3,21 +3,13 @@
 //! are at most 16 groups: types for such numbers would be no plainer, since they are reckoned with.
 ghost use Rattle.std.specs.Prelude.{◌≡◌, ◌*◌, ◌<◌, ◌≤◌};
 ghost use Rattle.forms.specs.Bounds.{most_groups};
-ghost use Rattle.forms.specs.Slots.{slot_of};
-ghost use Rattle.settlement.specs.Sheets.{slots, sheet_size, slot_number, slot_place, Within, SlotsApart, SheetOf};
+ghost use Rattle.forms.specs.Slots.{slot_of, slots, slot_number, Within};
+ghost use Rattle.settlement.specs.Sheets.{sheet_size, slot_place, SlotsApart, SheetOf};
 
-use forms::slot::Slot;
+use forms::slot::{Slot, slots_per_group};
 
 /// The words of a slot: one for each quarter hour of the longest day.
 pub const WORDS_PER_SLOT: usize = 96;
-
-/// How many slots each of `groups` groups owns.
-pub fn slots_per_group(groups: usize) -> usize
-    requires { groups ≤ most_groups }
-    ensures { result ≡ slots groups }
-{
-    2 * groups + 3
-}
 
 /// How many words the sheet of `groups` groups has.
 pub fn sheet_size(groups: usize) -> usize
@@ -27,28 +19,13 @@ pub fn sheet_size(groups: usize) -> usize
     groups * slots_per_group(groups) * WORDS_PER_SLOT
 }
 
-/// The place of a slot among its group's.
-pub fn slot_number(groups: usize, slot: Slot) -> usize
-    requires { (groups ≤ most_groups) × (Within groups (slot_of slot)) }
-    ensures value { result ≡ slot_number groups (slot_of slot) }
-    ensures bound { result < slots groups }
-{
-    match slot {
-        Slot::OutTo(other) => usize::from(other),
-        Slot::InFrom(other) => groups + usize::from(other),
-        Slot::Cons => 2 * groups,
-        Slot::Prod => 2 * groups + 1,
-        Slot::Pump => 2 * groups + 2,
-    }
-}
-
 /// The place of a group's slot among all slots of the sheet.
 pub(crate) fn slot_place(groups: usize, group: usize, slot: Slot) -> usize
     requires { (groups ≤ most_groups) × ((group < groups) × (Within groups (slot_of slot))) }
     ensures value { result ≡ slot_place groups group (slot_of slot) }
     ensures bound { result < groups * slots groups }
 {
-    group * slots_per_group(groups) + slot_number(groups, slot)
+    group * slots_per_group(groups) + slot.number(groups)
 }
 
 /// Slots of different groups, or of different series, never have one place. The contract is that theorem.

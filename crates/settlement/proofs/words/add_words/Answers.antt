@@ -8,7 +8,7 @@ loop-t-preserved g c =
     let inv = c.loop-t.invariant in
     let before = inv.kept c.loop-t.t (omega arith) in record {
       kept = λ k l. grind (arith, get_or-set_at, get_or-set_other, inv.kept k);
-      low = λ k. grind (arith, get_or-set_at, get_or-set_other, inv.low k, before);
+      low = λ k. let w = c.requires.low c.loop-t.t c.word.result (omega arith) c.word.ensures in grind (arith, get_or-set_at, get_or-set_other, inv.low k, before, w);
       value = λ words gives k l.
           let here = gives c.loop-t.t c.word.result (omega arith) c.word.ensures in
           grind (arith, get_or-set_at, get_or-set_other, inv.value words gives k, before, here);

@@ -1,6 +1,6 @@
 use Rattle.std.proofs.Common.{◌*◌, ap, ◌∙◌, arith}
 use Rattle.std.proofs.lemmas.Nat.{mul-add-lt}
-use Rattle.settlement.specs.Sheets.{slots}
+use Rattle.forms.specs.Slots.{slots}
 use Rattle.book.specs.States.{State, state_of, size}
 use Rattle.book.proofs.Days.{flags_enough}
 use Rattle.book.proofs.ledger.Ledger.place.Goals as goal

@@ -39,13 +39,13 @@ loop-a-preserved g c =
     let new = c.charged.result in
     let near = ap (cut_offs c.args.self.now.ledger.now.closed) c.requires.0 in
     let within : a < length xs = omega (arith, c.loop-a-test.true, c.loop-a.auto.account-items) in
-    let groups = c.on_sheet-day.ensures.groups in
-    let sent = c.on_sheet-day.ensures.sent in
-    let words = c.on_sheet-day.ensures.words in
+    let groups = c.on_sheet-sheet.ensures.groups in
+    let sent = c.on_sheet-sheet.ensures.sent in
+    let words = c.on_sheet-sheet.ensures.words in
     let figures = c.figures.ensures in
     let quarters = c.quarters-quarters.ensures.value in
-    let energy : c.day_excess-energy.result ≡ excess_today s sheet a =
-    c.day_excess-energy.ensures.value
+    let energy : c.excess-energy.result ≡ excess_today s sheet a =
+    c.excess-energy.ensures.value
     ∙ (λ j. day_excess (on_sheet (groups j) (sent j) (words j)) (figures j) (groups j) a (quarters j)) in
     let is : account_of new ≡ past_cut_off m s sheet a =
     c.charged.ensures.value ∙ (λ j. charged m s.terms.tariff (c.account.ensures.value j) (energy j)) in (

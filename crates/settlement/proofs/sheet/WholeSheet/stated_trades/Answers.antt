@@ -5,8 +5,8 @@ use Rattle.settlement.specs.Sheets.{words_per_slot}
 use Rattle.settlement.specs.Statements.{sent_on}
 use Rattle.settlement.proofs.sheet.WholeSheet.stated_trades.Goals as goal
 
-pub returns : goal.returns
+pub returns-clause-value : goal.returns-clause-value
 unfolding stated_with
-returns c =
+returns-clause-value c =
     let S = sent_on c.args.self.now c.args.a in
-    c.with_others.ensures words_per_slot (λ b t. S (in_from b) t) (λ b t. S (out_to b) t) (λ b x y u v h p. search rules)
+    c.with_others.ensures.value words_per_slot (λ b t. S (in_from b) t) (λ b t. S (out_to b) t) (λ b x y u v h p. search rules)
