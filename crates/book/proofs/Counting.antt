@@ -4,7 +4,7 @@ use mir.Val.{bool_byte}
 use Rattle.std.specs.List.{range_with_len, list_any}
 use Rattle.std.proofs.lemmas.List.Folds.{list_any-append}
 use Rattle.std.proofs.lemmas.Bool.{cases_Bool, cases_order}
-use Rattle.std.specs.Option.{option_map, option_or}
+use Rattle.std.specs.Option.{option_or}
 use Rattle.message.proofs.Search.{range_more}
 use Rattle.message.specs.Places.{first_of}
 use Rattle.settlement.specs.Sums.{sumℕ}
@@ -26,15 +26,6 @@ at_most_one false = omega arith
 pub count_next : (p : ℕ → Bool) (n : ℕ) → count_where p n + bool_byte (p n) ≡ count_where p (n + 1)
 unfolding count_where sumℕ
 count_next p n = rw (add-one n) (ap (λ k. count_where p n + k) (told (p n)))
-
-pub first_yes : (p : ℕ → Bool) (n : ℕ) → p n ≡ true → first_of p (n + 1) ≡ option_or (first_of p n) (Some n)
-unfolding first_of
-first_yes p n e = rw (add-one n) (rw e refl)
-
--- a first place told from 1, with one more that passes
-pub or_told : (o : Option ℕ) (n : ℕ) → option_or (option_map (λ k. k + 1) o) (Some (n + 1)) ≡ option_map (λ k. k + 1) (option_or o (Some n))
-or_told (Some k) n = refl
-or_told None n = refl
 
 -- whether some number below n meets a test, and whether there is a first
 or_there : (o : Option ℕ) (b : Bool) (n : ℕ) → (is_some o || (b || false)) ≡ is_some (option_or o (cond b (Some n) None))

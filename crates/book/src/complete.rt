@@ -2,7 +2,7 @@
 ghost use Rattle.std.specs.Prelude.{◌≡◌, ◌<◌, ◌&&◌, is_some};
 ghost use Rattle.forms.specs.Checks.{refuse_if};
 ghost use Rattle.forms.specs.declared.fault.Fault.TheVariants.{MissingSeries};
-ghost use Rattle.forms.specs.Slots.{slot_of, cons, prod, pump, slots, Within};
+ghost use Rattle.forms.specs.Slots.{cons, prod, pump, slots};
 ghost use Rattle.message.specs.Places.{first_of, sent_in};
 ghost use Rattle.book.specs.Messages.{left_out, incomplete};
 ghost use Rattle.book.specs.States.{state_of, size};

@@ -53,7 +53,7 @@ impl Stating<'_, '_, '_, '_> {
         ensures value { Adds (day_quarters (state_of self.now.sending.now.day.ledger.now)) (stated self.now.sending.now.series.message.quarters self.now.sending.now.series.message.bytes.now (slot_of slot)) sums.old sums.new }
         ensures bound { GrowsAtMostAWord sums.old sums.new }
     {
-        let series = self.sending.series;
+        let series = &self.sending.series;
         if let Some(words) = series.words(slot) {
             add_words(&mut sums[..words.len()], |t| u32::from_be_bytes(words[t]));
         }
@@ -88,7 +88,7 @@ impl Stating<'_, '_, '_, '_> {
         let figures = day.ledger.figures(own);
         let quarters = day.ledger.quarters();
         let next = self.checks();
-        // Where the message states nothing beyond the limit, the last one need not be added up.
+        // Where the message states nothing beyond the limit, what was stated before need not be added up.
         if count_outside(&Band::new(&figures, Phase::After), &next, quarters) == 0 {
             return Ok(());
         }

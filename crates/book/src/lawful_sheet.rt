@@ -48,7 +48,7 @@ impl LawfulSheet {
         }
     }
 
-    /// A sheet for so many groups, for 16 where there are more, with zero everywhere.
+    /// A sheet with zero everywhere, for so many groups, or for 16 where there are more.
     pub fn blank(heap: Global, groups: usize) -> Result<LawfulSheet, AllocError>
         ensures { IfOk result (λ sheet. sheet ≡ replicate (sheet_size (min groups most_groups)) 0) }
     {

@@ -1,4 +1,4 @@
-//! The current day of a ledger, with the sheet that a call is lent.
+//! The current day of a ledger, with the sheet that a call reads.
 ghost use Rattle.std.specs.Prelude.{◌≡◌, true, length};
 ghost use Rattle.settlement.specs.Sheets.{sheet_size};
 ghost use Rattle.book.specs.Sheets.{all_powers};

@@ -18,7 +18,7 @@ use forms::fault::Fault;
 use message::{Header, Message, MessageReader};
 
 /// A message that a book has accepted, the place of its sender, its version, and which slots are sent
-/// once it is taken. The sheet that it was tested on is lent no more, so that it can be written.
+/// once it is taken. It does not borrow the sheet that it was tested on, so that the sheet can be written.
 #[derive(Clone, Copy)]
 pub(crate) struct Accepted<'m> {
     pub(crate) message: Message<'m>,

@@ -82,8 +82,8 @@ impl Ledger {
         self.accounts[a]
     }
 
-    /// The day with the sheet that is lent. Refuses when the year is over, or when the sheet does not
-    /// fit.
+    /// The day with the sheet that the call reads. Refuses when the year is over, or when the sheet does
+    /// not fit.
     pub(crate) fn open_day<'l, 'w>(
         &'l self,
         sheet: SheetWords<'w>,

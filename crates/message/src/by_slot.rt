@@ -11,11 +11,12 @@ use crate::Message;
 use forms::slot::{MOST_SLOTS, Slot};
 
 /// A message of group `own` of `groups` groups whose heads are lawful and stand once, and the place of
-/// each slot's series, by the number of the slot. No other function looks for a series.
+/// each slot's series, by the number of the slot.
 #[derive(Clone, Copy)]
 pub struct SeriesBySlot<'a> {
     pub(crate) message: Message<'a>,
     pub(crate) groups: u8,
+    // Named in clauses alone.
     pub(crate) own: u8,
     pub(crate) places: [Option<u8>; MOST_SLOTS],
     ghost few: { groups ≤ most_groups },

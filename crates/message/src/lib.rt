@@ -1,8 +1,8 @@
 //! A schedule message in bytes, read in place.
 //!
 //! Series and quarter hours count from 0; only the places of faults and of a series as read count
-//! from 1. Each function asks that the series it is given is one of the message's, as an index is
-//! asked to be in range: a type for such a number would be no plainer.
+//! from 1. Each function asks that the series or the slot it is given is there, and that there are at
+//! most 16 groups, as an index is asked to be in range.
 #![tactic(auto)]
 
 ghost use Rattle.std.specs.Prelude.{◌≡◌, ℕ, ◌+◌, ◌*◌, ◌/◌, ◌<◌, ◌≤◌, length, slice_index_or, Ok, []};

@@ -13,13 +13,13 @@ use forms::checks::in_order;
 use forms::fault::Fault;
 use forms::slot::Slot;
 
-impl<'a> Message<'a> {
+impl Message<'_> {
     /// Whether no value of series `i` is above the bound, in one plain pass.
     fn is_within(&self, i: u8) -> bool
         requires { i < series_count self.now.bytes.now }
         ensures { result ≡ is_ok (in_series self.now.quarters (range_check self.now.quarters self.now.bytes.now) i) }
     {
-        // As in `are_apart`.
+        // `all` would leave early, and the pass would not be a plain one.
         let mut within = true;
         for word in self.words(i) {
             within &= u32::from_be_bytes(*word) <= POWER_BOUND;
@@ -56,7 +56,7 @@ impl<'a> Message<'a> {
     }
 }
 
-impl<'a> SeriesBySlot<'a> {
+impl SeriesBySlot<'_> {
     /// Series `i` is no forecast above 0.
     #[tactic(auto, using(forms::proofs::Firsts::each_in_order, crate::proofs::Passes::forecast_other))]
     fn check_forecast(&self, i: u8) -> Result<(), Fault>
@@ -124,7 +124,7 @@ impl<'a> SeriesBySlot<'a> {
     }
 }
 
-// Where the pass finds nothing no test fails; else each value is tested, to name the earliest.
+// Where the pass finds nothing, no test fails; else the message is gone through, to name the earliest.
 impl Scan<'_, '_> {
     /// No value of the message is above the bound. Where all their bits together are not, none is.
     #[tactic(auto, using(forms::proofs::Firsts::each_in_order))]

@@ -10,8 +10,8 @@ use forms::group::Group;
 /// No check value of a day's sums is farther from zero: 2^30.
 const FARTHEST: u64 = 1 << 30;
 
-/// Two check values: only below the one and above the other is an open position beyond a limit. They
-/// have 32 bits, as the sums have, so that a pass over a day takes four at a time.
+/// A check value below the one or above the other, and no other, has an open position beyond a limit.
+/// They have 32 bits, as the sums have, so that a pass over a day takes four at a time.
 #[derive(Clone, Copy)]
 pub struct Band {
     pub low: i32,
@@ -23,9 +23,10 @@ impl Band {
     pub fn new(figures: &Group, phase: Phase) -> Band
         ensures { IsBandOf (figures_of figures.now) phase result }
     {
-        let limit = u64::from(limit_for(figures, phase, 0));
-        let below = (u64::from(figures.prod_max) + limit).min(FARTHEST);
-        let above = (u64::from(figures.pump_depth) + limit).min(FARTHEST);
+        let short = u64::from(limit_for(figures, phase, -1));
+        let long = u64::from(limit_for(figures, phase, 1));
+        let below = (u64::from(figures.prod_max) + short).min(FARTHEST);
+        let above = (u64::from(figures.pump_depth) + long).min(FARTHEST);
         Band {
             low: -(below as i32),
             high: above as i32,

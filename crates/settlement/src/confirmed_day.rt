@@ -22,8 +22,8 @@ use forms::slot::Slot;
 /// A group's sums, one for each quarter hour of a day.
 pub type GroupSums = [u32; WORDS_PER_SLOT];
 
-/// A sheet, and what each of its groups takes and gives in confirmed trades. The sums are lent, since
-/// they are too many to be handed about.
+/// A sheet, and what each of its groups takes and gives in confirmed trades; only their difference is
+/// promised, as in `DayTrades`. The sums are lent, since they are too many to be handed about.
 #[derive(Clone, Copy)]
 pub struct ConfirmedDay<'t, 's, 'w> {
     pub sheet: WholeSheet<'s, 'w>,
@@ -32,7 +32,7 @@ pub struct ConfirmedDay<'t, 's, 'w> {
     ghost confirmed: { AreConfirmed (sent_on sheet) sheet.groups taken.now given.now },
 }
 
-impl<'s, 'w> WholeSheet<'s, 'w> {
+impl WholeSheet<'_, '_> {
     /// Whether the slots at two places were both sent.
     fn both_sent(&self, out: usize, into: usize) -> bool
         requires { (out < length self.now.sent.now) × (into < length self.now.sent.now) }

@@ -1,7 +1,7 @@
 //! A group's trades of a whole day at once. Quarter hours count from 0.
 ghost use Rattle.std.specs.Prelude.{◌≡◌, ℕ, ◌+◌, ◌*◌, ◌^◌, ◌<◌, ◌≤◌, length, pos, ◌-ℤ◌, slice_index, unsigned_abs};
 ghost use Rattle.forms.specs.Bounds.{most_groups};
-ghost use Rattle.forms.specs.Slots.{slot_of, cons, Within};
+ghost use Rattle.forms.specs.Slots.{slot_of, Within};
 ghost use Rattle.settlement.specs.Days.{day_net, HasRoom, GrowsAtMostAWord, Adds};
 ghost use Rattle.settlement.specs.Sums.{with_others};
 ghost use Rattle.settlement.specs.Positions.{stated_check, stated_with};
@@ -89,7 +89,7 @@ impl WholeSheet<'_, '_> {
 
     /// The check values of group `a` by what it has stated: its trades, with its consumption among what it
     /// gives.
-    // Inlined, so that the sums stay in registers.
+    // Inlined, so that the sums are not copied to the caller.
     #[inline(always)]
     pub fn stated_checks(&self, a: usize) -> DayTrades
         requires { a < self.now.groups }

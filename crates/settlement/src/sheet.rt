@@ -3,7 +3,7 @@
 //! are at most 16 groups: types for such numbers would be no plainer, since they are reckoned with.
 ghost use Rattle.std.specs.Prelude.{◌≡◌, ◌*◌, ◌<◌, ◌≤◌};
 ghost use Rattle.forms.specs.Bounds.{most_groups};
-ghost use Rattle.forms.specs.Slots.{slot_of, slots, slot_number, Within};
+ghost use Rattle.forms.specs.Slots.{slot_of, slots, Within};
 ghost use Rattle.settlement.specs.Sheets.{sheet_size, slot_place, SlotsApart, SheetOf};
 
 use forms::slot::{Slot, slots_per_group};
@@ -56,8 +56,8 @@ impl<'s, 'w> Sheet<'s, 'w> {
         }
     }
 
-    /// The same sheet, where its flags and words are as many as its groups' slots need. It is asked for
-    /// here, so that no other function has to.
+    /// The same sheet, where its flags and words are as many as its groups' slots need and no word is above
+    /// the bound on powers. It is asked for here, so that no other function has to.
     pub fn whole(self) -> WholeSheet<'s, 'w>
         requires { SheetOf self.groups self.sent.now self.words.now }
         ensures groups { result.groups ≡ self.entry.groups }
@@ -72,7 +72,8 @@ impl<'s, 'w> Sheet<'s, 'w> {
     }
 }
 
-/// A sheet that has a flag for each slot of its groups, of which there are at most 16, and all their words.
+/// A sheet that has a flag for each slot of its groups, of which there are at most 16, and all their
+/// words, none above the bound on powers.
 #[derive(Clone, Copy)]
 pub struct WholeSheet<'s, 'w> {
     pub(crate) groups: usize,
