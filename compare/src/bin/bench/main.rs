@@ -27,12 +27,22 @@ use std::process::ExitCode;
 use compare::QUARTERS;
 
 use failure::Failure;
-use measure::{Bench, Measured, Program, RUNS, Session, Valgrind};
-use report::{cells, heads, megabytes, print, say, table, throughputs};
+use measure::{Bench, Program, RUNS, Session, Valgrind};
+use report::{head, print, rows, say};
 use session::Size;
 
-/// The whole year, where growth ends.
 const YEAR: Size = Size { groups: 8, days: 366, versions: 6 };
+
+/// The year, and smaller sessions: by days, by versions and by groups.
+const SIZES: [Size; 7] = [
+    YEAR,
+    Size { days: 92, ..YEAR },
+    Size { days: 183, ..YEAR },
+    Size { versions: 1, ..YEAR },
+    Size { versions: 3, ..YEAR },
+    Size { groups: 2, ..YEAR },
+    Size { groups: 4, ..YEAR },
+];
 
 /// The status after a failure that left something to look at.
 const LOOK: u8 = 2;
@@ -81,6 +91,8 @@ fn main() -> ExitCode {
 fn measure_all(arguments: &Arguments) -> Result<(), Failure> {
     let bench = Bench { folder: arguments.folder.into(), valgrind: Valgrind::find() };
     print(&method(&bench))?;
+    print("")?;
+    print(&head())?;
     measure_sessions(&bench, arguments.account, arguments.second)?;
     arguments.asked.as_ref().map_or(Ok(()), |asked| measure_questions(&bench, asked))
 }
@@ -92,13 +104,13 @@ fn method(bench: &Bench) -> String {
         None => "There is no valgrind on the PATH, so no instructions are counted.",
     };
     format!(
-        "{RUNS} runs of each program on each session, in turn. 'faster in' tells in how many of \
-         them the first program took less time by the clock than the program of the row, the \
-         first run beside the first, and so on. {instructions}"
+        "{RUNS} runs of each program on each session, in turn. The last column tells in how many \
+         of them the session's first program took less time by the clock than the program of the \
+         row, the first run beside the first, and so on. {instructions}"
     )
 }
 
-/// The year, and how the figures grow with days, versions and groups.
+/// The rows of the year, and of the smaller sessions.
 fn measure_sessions(bench: &Bench, account: &Path, second: &Path) -> Result<(), Failure> {
     let programs = [
         Program { name: "account", path: account.into(), arguments: vec![] },
@@ -109,79 +121,24 @@ fn measure_sessions(bench: &Bench, account: &Path, second: &Path) -> Result<(), 
             arguments: vec!["--no-test".into()],
         },
     ];
-    let year = Point::measure(bench, &programs, YEAR)?;
-    print(&year_report(&year))?;
-    for (what, sizes) in [
-        ("days", [92, 183].map(|days| Size { days, ..YEAR })),
-        ("versions", [1, 3].map(|versions| Size { versions, ..YEAR })),
-        ("groups", [2, 4].map(|groups| Size { groups, ..YEAR })),
-    ] {
-        let [small, middle] = sizes;
-        let small = Point::measure(bench, &programs, small)?;
-        let middle = Point::measure(bench, &programs, middle)?;
-        print(&growth_report(what, &[&small, &middle, &year]))?;
-    }
-    Ok(())
-}
-
-/// What was measured on a session of one size.
-struct Point<'a> {
-    size: Size,
-    bytes: u64,
-    measured: [Measured<'a>; 3],
-}
-
-impl Point<'_> {
-    fn measure<'a>(
-        bench: &Bench,
-        programs: &'a [Program; 3],
-        size: Size,
-    ) -> Result<Point<'a>, Failure> {
+    for size in SIZES {
         let frames = bench.folder.join("session.frames");
         session::write(&frames, size).map_err(Failure::writing(&frames))?;
         let bytes = fs::metadata(&frames).map_err(Failure::reading(&frames))?.len();
         let session = Session { name: size.to_string(), frames };
-        Ok(Point { size, bytes, measured: bench.measure(programs, &session)? })
+        let measured = bench.measure(&programs, &session)?;
+        print(&rows(&session.name, &measured, Some(bytes)))?;
     }
-
-    /// Its rows in a table of growth.
-    fn rows(&self) -> Vec<Vec<String>> {
-        let Size { groups, days, versions } = self.size;
-        let size = [groups.to_string(), days.to_string(), versions.to_string()];
-        let leading = [&size[..], &[format!("{:.1}", megabytes(self.bytes))]].concat();
-        let rows = cells(&self.measured, Some(self.bytes));
-        rows.into_iter().map(|row| [&leading[..], &row].concat()).collect()
-    }
+    Ok(())
 }
 
-fn year_report(year: &Point) -> String {
-    let Size { groups, versions, .. } = year.size;
-    let rows = cells(&year.measured, Some(year.bytes));
-    format!(
-        "A year of {groups} groups, {versions} messages a group and day, {:.1} MB:\n\n{}\n{}",
-        megabytes(year.bytes),
-        table(&heads(&year.measured), &rows),
-        throughputs(&year.measured)
-    )
-}
-
-fn growth_report(what: &str, points: &[&Point; 3]) -> String {
-    let leading = ["groups", "days", "versions", "MB"].map(String::from);
-    let heads = [&leading[..], &heads(&points[0].measured)].concat();
-    let rows: Vec<Vec<String>> = points.iter().flat_map(|point| point.rows()).collect();
-    format!("Growth by {what}, up to the whole year:\n\n{}", table(&heads, &rows))
-}
-
-/// The programs that answer what no frame asks.
+/// The rows of the programs that answer what no frame asks.
 fn measure_questions(bench: &Bench, asked: &Asked) -> Result<(), Failure> {
     let quarters: Vec<String> = (1..=QUARTERS).map(|quarter| quarter.to_string()).collect();
     let programs = [("inquiry", asked.inquiry), ("second_inquiry", asked.second_inquiry)]
         .map(|(name, path)| Program { name, path: path.into(), arguments: quarters.clone() });
-    let name = format!("16 groups, {QUARTERS} quarter hours");
+    let name = format!("16 groups, asked at the end for all {QUARTERS} quarter hours");
     let session = Session { name, frames: asked.session.into() };
     let measured = bench.measure(&programs, &session)?;
-    print(&format!(
-        "A stored session of 16 groups, asked at its end for all {QUARTERS} quarter hours:\n\n{}",
-        table(&heads(&measured), &cells(&measured, None))
-    ))
+    print(&rows(&session.name, &measured, None))
 }

@@ -17,7 +17,7 @@ pub const RUNS: usize = 7;
 
 /// A program with its arguments.
 pub struct Program {
-    /// How it is called in the tables.
+    /// How it is called in the table.
     pub name: &'static str,
     pub path: PathBuf,
     pub arguments: Vec<String>,

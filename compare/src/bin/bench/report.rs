@@ -1,4 +1,4 @@
-//! What the benchmark tells: tables in Markdown, and what it is at.
+//! What the benchmark tells: a table in Markdown, and what it is at.
 
 use std::io::{self, Write};
 use std::time::Duration;
@@ -9,10 +9,10 @@ use crate::measure::{Measured, RUNS};
 /// Where there is nothing to tell.
 const DASH: &str = "–";
 
-/// Prints a part of the results and a blank line.
-pub fn print(part: &str) -> Result<(), Failure> {
+/// Prints lines of the results.
+pub fn print(lines: &str) -> Result<(), Failure> {
     // Not println, which would end the program when nobody reads any more.
-    writeln!(io::stdout(), "{}\n", part.trim_end()).map_err(Failure::Results)
+    writeln!(io::stdout(), "{lines}").map_err(Failure::Results)
 }
 
 /// Says on the standard error what is going on.
@@ -21,32 +21,35 @@ pub fn say(text: &str) {
     let _ = writeln!(io::stderr(), "bench: {text}");
 }
 
-/// A table in Markdown.
-pub fn table(heads: &[String], rows: &[Vec<String>]) -> String {
-    let line = |cells: &[String]| format!("| {} |\n", cells.join(" | "));
-    let rule = format!("|{}\n", "---|".repeat(heads.len()));
-    let rows: String = rows.iter().map(|row| line(row)).collect();
-    line(heads) + &rule + &rows
+/// The head of the table, and the line below it.
+pub fn head() -> String {
+    let heads = [
+        "session",
+        "program",
+        "median",
+        "best",
+        "processor, median",
+        "peak memory",
+        "instructions, millions",
+        "first program faster in",
+    ];
+    format!("{}\n|{}", line(&heads.map(String::from)), "---|".repeat(heads.len()))
 }
 
-/// The heads of the columns that [`cells`] fills.
-pub fn heads(measured: &[Measured]) -> Vec<String> {
-    let heads = ["program", "median", "best", "processor, median", "peak memory"];
-    let mut heads = heads.map(String::from).to_vec();
-    heads.push("instructions, millions".into());
-    heads.push(format!("{} faster in", measured[0].program.name));
-    heads
-}
-
-/// A row for each program. With the bytes of the session each time has its throughput.
-pub fn cells(measured: &[Measured], bytes: Option<u64>) -> Vec<Vec<String>> {
+/// A row for each program of a session. With the bytes of the session each time has its throughput.
+pub fn rows(session: &str, measured: &[Measured], bytes: Option<u64>) -> String {
+    let session = match bytes {
+        Some(bytes) => format!("{session}, {:.1} MB", megabytes(bytes)),
+        None => session.into(),
+    };
     let first = &measured[0];
     let row = |(place, measured): (usize, &Measured)| {
         let faster = match place {
             0 => DASH.into(),
             _ => format!("{} of {RUNS}", first.faster_than(measured)),
         };
-        vec![
+        line(&[
+            session.clone(),
             measured.program.name.into(),
             time(measured.median(|run| run.wall), bytes),
             time(measured.best(|run| run.wall), bytes),
@@ -54,27 +57,14 @@ pub fn cells(measured: &[Measured], bytes: Option<u64>) -> Vec<Vec<String>> {
             format!("{} KB", grouped(&measured.peak_kb().to_string())),
             measured.instructions.map_or(DASH.into(), millions),
             faster,
-        ]
+        ])
     };
-    measured.iter().enumerate().map(row).collect()
+    measured.iter().enumerate().map(row).collect::<Vec<_>>().join("\n")
 }
 
-/// How much of the throughput of each other program the first one reaches.
-pub fn throughputs(measured: &[Measured]) -> String {
-    let [first, others @ ..] = measured else { return String::new() };
-    let sentence = |other: &Measured| {
-        let ratio = |time: fn(&Measured) -> Duration| time(other).div_duration_f64(time(first));
-        format!(
-            "Throughput of {} as a part of that of {}: {:.2} by medians, {:.2} by best runs, \
-             {:.2} by processor time.\n",
-            first.program.name,
-            other.program.name,
-            ratio(|measured| measured.median(|run| run.wall)),
-            ratio(|measured| measured.best(|run| run.wall)),
-            ratio(|measured| measured.median(|run| run.processor)),
-        )
-    };
-    others.iter().map(sentence).collect()
+/// A line of the table.
+fn line(cells: &[String]) -> String {
+    format!("| {} |", cells.join(" | "))
 }
 
 /// Milliseconds, and MB/s for so many bytes.
@@ -90,7 +80,7 @@ fn time(taken: Duration, bytes: Option<u64>) -> String {
     }
 }
 
-pub fn megabytes(bytes: u64) -> f64 {
+fn megabytes(bytes: u64) -> f64 {
     bytes as f64 / 1e6
 }
 
@@ -140,10 +130,10 @@ mod tests {
     }
 
     #[test]
-    fn tables_in_markdown() {
-        let texts = |texts: [&str; 2]| texts.map(String::from).to_vec();
-        let rows = [texts(["1", "2"]), texts(["3", "4"])];
-        let expected = "| a | b |\n|---|---|\n| 1 | 2 |\n| 3 | 4 |\n";
-        assert_eq!(table(&texts(["a", "b"]), &rows), expected);
+    fn lines_in_markdown() {
+        assert_eq!(line(&["1", "2"].map(String::from)), "| 1 | 2 |");
+        let head = head();
+        let (above, below) = head.split_once('\n').unwrap();
+        assert_eq!(above.matches('|').count(), below.matches('|').count());
     }
 }
