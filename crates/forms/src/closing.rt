@@ -1,5 +1,5 @@
 //! Bytes that may be a closing form: sizes, feed-ins, long prices and short prices.
-ghost use Rattle.std.specs.Prelude.{◌≡◌, IfOk, OnOk};
+ghost use Rattle.std.specs.Prelude.{◌≡◌, IfOk, Ok, OnOk};
 ghost use Rattle.forms.specs.Checks.{verdict};
 ghost use Rattle.forms.specs.Closings.{ClosingFormed, closing_sizes};
 
@@ -56,18 +56,29 @@ impl<'a> ClosingReader<'a> {
         Ok(())
     }
 
+    /// The form, where the length is known to be what the sizes of the book and the day give.
+    pub fn formed(&self) -> ClosingForm<'a>
+        requires { ClosingFormed self.now.groups self.now.quarters self.now.bytes.now }
+        ensures bytes { result.bytes.now ≡ self.now.bytes.now }
+        ensures groups { result.groups ≡ self.now.groups }
+        ensures quarters { result.quarters ≡ self.now.quarters }
+    {
+        ClosingForm {
+            bytes: self.bytes,
+            groups: self.groups,
+            quarters: self.quarters,
+        }
+    }
+
     /// The form, once its sizes are those of the book and the day, and its length is theirs.
     pub fn form(&self) -> Result<ClosingForm<'a>, Fault>
         ensures value { verdict result ≡ closing_sizes self.now.groups self.now.quarters self.now.bytes.now }
         ensures bytes { IfOk result (λ form. form.bytes.now ≡ self.now.bytes.now) }
         ensures groups { IfOk result (λ form. form.groups ≡ self.now.groups) }
         ensures quarters { IfOk result (λ form. form.quarters ≡ self.now.quarters) }
+        ensures passed { IfOk result (λ form. closing_sizes form.groups form.quarters form.bytes.now ≡ Ok tt) }
     {
         self.check_sizes()?;
-        Ok(ClosingForm {
-            bytes: self.bytes,
-            groups: self.groups,
-            quarters: self.quarters,
-        })
+        Ok(self.formed())
     }
 }

@@ -1,8 +1,8 @@
-//! A closing form whose sizes are right, and what it says. Groups, series and quarter hours count
-//! from 0 here; in a fault they count from 1.
-ghost use Rattle.std.specs.Prelude.{◌≡◌, ◌+◌, ◌<◌, Ok};
+//! A closing form of the right length, and what it says. Groups, series and quarter hours count from 0
+//! here; in a fault they count from 1.
+ghost use Rattle.std.specs.Prelude.{◌≡◌, ◌+◌, ◌<◌};
 ghost use Rattle.forms.specs.Checks.{each_of};
-ghost use Rattle.forms.specs.Closings.{ClosingFormed, closing_series, closing_sizes, closing_value, feed_in, long_price, short_price, value_bound, value_check, closing_series_check, closing_check};
+ghost use Rattle.forms.specs.Closings.{ClosingFormed, closing_series, closing_value, feed_in, long_price, short_price, value_bound, value_check, closing_series_check, closing_check};
 
 use crate::bounds::{POWER_BOUND, PRICE_BOUND};
 use crate::bytes::signed32_at;
@@ -10,14 +10,13 @@ use crate::checks::in_order;
 use crate::closing::{CLOSING_HEADER, VALUE_BYTES};
 use crate::fault::Fault;
 
-/// A closing form in its bytes, with the sizes of the book and the day, and their length.
+/// A closing form in its bytes, as long as the sizes of the book and the day give.
 #[derive(Clone, Copy)]
 pub struct ClosingForm<'a> {
     pub(crate) bytes: &'a [u8],
     pub(crate) groups: u8,
     pub(crate) quarters: u8,
     ghost formed: { ClosingFormed groups quarters bytes.now },
-    ghost passed: { closing_sizes groups quarters bytes.now ≡ Ok tt },
 }
 
 impl<'a> ClosingForm<'a> {

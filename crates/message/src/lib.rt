@@ -5,9 +5,9 @@
 //! most 16 groups, as an index is asked to be in range.
 #![tactic(auto)]
 
-ghost use Rattle.std.specs.Prelude.{◌≡◌, ℕ, ◌+◌, ◌*◌, ◌/◌, ◌<◌, ◌≤◌, length, slice_index_or, Ok, []};
+ghost use Rattle.std.specs.Prelude.{◌≡◌, ℕ, ◌+◌, ◌*◌, ◌/◌, ◌<◌, ◌≤◌, length, slice_index_or, []};
 ghost use Rattle.forms.specs.Bytes.{be32};
-ghost use Rattle.message.specs.Form.{Formed, series_count, said, header_of, head_of, value_at, values_at, values_start};
+ghost use Rattle.message.specs.Form.{Formed, series_count, said, head_of, value_at, values_at, values_start};
 
 pub mod by_slot;
 pub mod heads;
@@ -44,7 +44,6 @@ pub struct Message<'a> {
     bytes: &'a [u8],
     quarters: u8,
     ghost formed: { Formed quarters bytes.now },
-    ghost passed: { header_of quarters bytes.now ≡ Ok (said bytes.now) },
 }
 
 /// The place of a series or a quarter hour as a fault names it, from 1.

@@ -1,7 +1,7 @@
 //! Bytes that may be a message.
-ghost use Rattle.std.specs.Prelude.{◌≡◌, IfOk};
+ghost use Rattle.std.specs.Prelude.{◌≡◌, IfOk, Ok};
 ghost use Rattle.forms.specs.Checks.{verdict};
-ghost use Rattle.message.specs.Form.{header_of};
+ghost use Rattle.message.specs.Form.{Formed, said, header_of};
 
 use crate::{HEADER, Message};
 use forms::fault::Fault;
@@ -22,11 +22,24 @@ impl<'a> MessageReader<'a> {
         MessageReader { bytes, quarters }
     }
 
-    /// The message, once the length is what its sizes give.
+    /// The message, where the length is known to be what its sizes give.
+    pub fn formed(&self) -> Message<'a>
+        requires { Formed self.now.quarters self.now.bytes.now }
+        ensures bytes { result.bytes.now ≡ self.now.bytes.now }
+        ensures quarters { result.quarters ≡ self.now.quarters }
+    {
+        Message {
+            bytes: self.bytes,
+            quarters: self.quarters,
+        }
+    }
+
+    /// The message, once its header is there and for this day, and the length is what its sizes give.
     pub fn message(&self) -> Result<Message<'a>, Fault>
         ensures value { verdict result ≡ verdict (header_of self.now.quarters self.now.bytes.now) }
         ensures bytes { IfOk result (λ message. message.bytes.now ≡ self.now.bytes.now) }
         ensures quarters { IfOk result (λ message. message.quarters ≡ self.now.quarters) }
+        ensures passed { IfOk result (λ message. header_of message.quarters message.bytes.now ≡ Ok (said message.bytes.now)) }
     {
         let bytes = self.bytes;
         if bytes.len() < HEADER {
@@ -40,9 +53,6 @@ impl<'a> MessageReader<'a> {
         if bytes.len() != HEADER + 2 * series + 4 * (series * quarters) {
             return Err(Fault::WrongLength);
         }
-        Ok(Message {
-            bytes,
-            quarters: self.quarters,
-        })
+        Ok(self.formed())
     }
 }
