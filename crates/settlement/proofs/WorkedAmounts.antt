@@ -10,7 +10,7 @@ pub settlement_figures : SettlementFigures
 unfolding sumℤ confirmed confirmed_with day_cost on_sheet
 settlement_figures = (
   (refl, refl, refl, refl, refl),
-  (refl, refl, refl),
+  (refl, refl, refl, refl),
   (refl, refl),
   (λ long. refl, λ short. refl, λ short. refl),
 )

@@ -32,9 +32,13 @@ abbrev pub full_sheet : Bool → Statements
 full_sheet answered =
     on_sheet 2 (slice_set (slice_set (replicate (2 * slots 2) false) (slot_place 2 0 (out_to 1)) true) (slot_place 2 1 (in_from 0)) answered) (replicate (sheet_size 2) 200)
 
--- out 200 against in 150; against in 200, and against the same words in a slot that was not sent
+-- out 200 against in 150, and against a stated 0; against in 200, and against the same words in a slot that was not sent
 abbrev pub TradeFigures : Type 0
-TradeFigures = (confirmed (two_sides 200 150) 0 0 1 ≡ 150) × (confirmed (full_sheet true) 0 0 1 ≡ 200) × (confirmed (full_sheet false) 0 0 1 ≡ 0)
+TradeFigures =
+    (confirmed (two_sides 200 150) 0 0 1 ≡ 150)
+    × (confirmed (two_sides 200 0) 0 0 1 ≡ 0)
+    × (confirmed (full_sheet true) 0 0 1 ≡ 200)
+    × (confirmed (full_sheet false) 0 0 1 ≡ 0)
 
 abbrev pub PenaltyFigures : Type 0
 PenaltyFigures = (penalty (record { fee = 50000; rate = 8000 }) 14400 ≡ 78800) × (penalty (record { fee = 0; rate = 3999 }) 1 ≡ 0)
