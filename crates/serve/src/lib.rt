@@ -2,14 +2,18 @@
 //! announces too long a body stops the session here; every other decision is the session's.
 #![tactic(auto)]
 
-ghost use Rattle.std.specs.Prelude.{IfOk};
+ghost use Rattle.std.specs.Prelude.{[], IfOk};
+ghost use Rattle.serve.specs.Sessions.{SessionLeft};
 ghost use Rattle.serve.specs.Taken.{FramesMake};
 ghost use Rattle.session.specs.Runs.{new_session};
+ghost use Rattle.session.specs.Stops.{account_groups};
 ghost use Rattle.session.specs.Views.{view_of};
 
 use service::Service;
 use session::session::{ACCOUNT_GROUPS, Session};
+use std::alloc::Global;
 use std::io;
+use std::io::{Read, Write};
 
 pub mod account;
 mod input_buffer;
@@ -18,8 +22,19 @@ mod service;
 
 /// A whole session on the standard streams, for the eight groups that the program `account` serves.
 pub fn run(rt: &HostRuntime) -> io::Result<()> {
-    run_for(rt, ACCOUNT_GROUPS)?;
+    account_session(rt.alloc(), rt.stdin(), rt.stdout())?;
     Ok(())
+}
+
+/// The same between any input and output, as its last frame left it.
+fn account_session<R: Read + Drop, W: Write + Drop>(
+    heap: Global,
+    input: R,
+    output: W,
+) -> io::Result<Session>
+    ensures { IfOk result (λ s. SessionLeft account_groups new_session (view_of s) (record { bytes = []; rest = R.remaining input })) }
+{
+    Service::new(heap, ACCOUNT_GROUPS, input, output)?.serve()
 }
 
 /// A whole session on the standard streams, for at most so many groups, as its last frame left it.

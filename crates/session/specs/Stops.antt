@@ -5,6 +5,10 @@ use Rattle.forms.specs.Bytes.{byte}
 use Rattle.session.specs.declared.letter.Letter.TheVariants.{Rule, Opening, Message, Advance, Closing}
 use Rattle.session.specs.Letters.{code_of}
 
+-- the most groups that the program `account` serves
+abbrev pub account_groups : ℕ
+account_groups = 8
+
 -- an opening form for more groups than a program serves, which are at most so many, and no more than a book can have
 abbrev pub too_many : ℕ → List ℕ → Bool
 too_many most body = nat_lt 0 (length body) && (nat_le (most + 1) (byte body 0) && nat_le (byte body 0) most_groups)
