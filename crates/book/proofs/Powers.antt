@@ -1,11 +1,14 @@
--- All bits of some words together.
-use Rattle.std.proofs.Common.{◌≡◌, ℕ, zero, suc, ◌+◌, ◌*◌, ◌≤◌, true, ◌&&◌, List, [], ◌∷◌, take, drop, fold, refl, sym, ap, ◌∙◌, arith}
+-- All bits of some words together, and some words slot by slot.
+use Rattle.std.proofs.Common.{◌≡◌, ℕ, zero, suc, ◌+◌, ◌*◌, ◌≤◌, Bool, true, ◌&&◌, leb, List, [], ◌∷◌, take, drop, fold, refl, sym, ap, ◌∙◌, arith}
 use lib.Bits.{bit_or, or_add_and}
 use Rattle.forms.specs.Bounds.{power_bound}
+use Rattle.std.proofs.Math.Bool.{and_assoc, and-true}
 use Rattle.std.proofs.lemmas.Nat.{and_le_l, and_le_r}
+use Rattle.std.specs.List.{list_all}
 use Rattle.std.specs.Simd.{first_chunks}
 use Rattle.std.proofs.lemmas.Bool.{le-leb}
 use Rattle.std.proofs.lemmas.List.{drop-drop, take-append-drop}
+use Rattle.std.proofs.lemmas.List.Folds.{list_all-append}
 use Rattle.std.proofs.lemmas.List.Sums.{fold-append}
 use Rattle.book.specs.Sheets.{all_powers}
 
@@ -35,3 +38,23 @@ bits_by_slots n (suc k) a ws =
     ∙ bits_by_slots n k first (drop n ws)
     ∙ sym (fold-append bit_or a (take n ws) (drop n ws))
     ∙ ap (fold bit_or a) (take-append-drop n ws)
+
+-- a pass that keeps whether all words so far are within the bound
+pub pass_within : (b : Bool) (ws : List ℕ) → fold (λ b w. b && leb w power_bound) b ws ≡ (b && all_powers ws)
+unfolding all_powers
+pass_within b [] = sym (and-true b)
+pass_within b (w ∷ ws) = pass_within (b && leb w power_bound) ws ∙ and_assoc b (leb w power_bound) (all_powers ws)
+
+-- the words of slots of n words, one slot after another, and the words behind them
+pub powers_by_slots : (n k : ℕ) (ws : List ℕ) → (list_all all_powers (first_chunks n k ws) && all_powers (drop (k * n) ws)) ≡ all_powers ws
+unfolding all_powers
+powers_by_slots n zero ws = let e : 0 * n ≡ 0 = omega arith in ap (λ m. all_powers (drop m ws)) e
+powers_by_slots n (suc k) ws =
+    let e : suc k * n ≡ n + k * n = omega arith in
+    let first = all_powers (take n ws) in
+    let slots = list_all all_powers (first_chunks n k (drop n ws)) in
+    and_assoc first slots (all_powers (drop (suc k * n) ws))
+    ∙ ap (λ l. first && (slots && all_powers l)) (ap (λ m. drop m ws) e ∙ sym (drop-drop (k * n) n ws))
+    ∙ ap (λ b. first && b) (powers_by_slots n k (drop n ws))
+    ∙ sym (list_all-append (λ w. leb w power_bound) (take n ws) (drop n ws))
+    ∙ ap all_powers (take-append-drop n ws)

@@ -22,11 +22,22 @@ fn all_bits(words: &[u32]) -> u32
     with_bits(bits, rest)
 }
 
+/// Whether no word is above the bound on powers, in one plain pass that no word ends.
+fn all_within(words: &[u32]) -> bool
+    ensures { result ≡ all_powers words.now }
+{
+    words
+        .iter()
+        .fold(true, |within, word| within & (*word <= POWER_BOUND))
+}
+
 /// Whether no word is above the bound on powers, word by word.
 fn each_within(words: &[u32]) -> bool
     ensures { result ≡ all_powers words.now }
 {
-    words.iter().all(|word| *word <= POWER_BOUND)
+    // Slot by slot, as `all_bits`: a pass that each word may end takes four times as long.
+    let (slots, rest) = words.as_chunks::<WORDS_PER_SLOT>();
+    slots.iter().all(|slot| all_within(slot)) && all_within(rest)
 }
 
 /// Whether no word is above the bound on powers. Where all their bits together are not, none is.
