@@ -65,7 +65,13 @@ fn push_totals(lines: &mut Vec<Line>, session: &Session) -> Result<(), AllocErro
 pub fn table(heap: Global, session: &Session, quarters: &[u16]) -> Result<Vec<Line>, AllocError>
     ensures { IfOk result (λ v. entries_in v ≡ table (view_of session.now) quarters.now) }
 {
-    let mut lines = Vec::new(heap);
+    // Made for all its lines at once: a list that grows asks for up to twice the room.
+    let groups = usize::from(session.groups());
+    let parts = quarters
+        .len()
+        .saturating_mul(groups)
+        .saturating_add(usize::from(session.cut_offs()) + 1);
+    let mut lines = Vec::with_capacity(heap, groups.saturating_mul(parts))?;
     for quarter in quarters {
         push_positions(&mut lines, session, *quarter)?;
         push_trades(&mut lines, session, *quarter)?;
