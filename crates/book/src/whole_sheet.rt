@@ -35,7 +35,7 @@ fn all_within(words: &[u32]) -> bool
 fn each_within(words: &[u32]) -> bool
     ensures { result ≡ all_powers words.now }
 {
-    // Slot by slot, as `all_bits`: a pass that each word may end takes four times as long.
+    // Slot by slot: a pass that any word may end looks at one word at a time.
     let (slots, rest) = words.as_chunks::<WORDS_PER_SLOT>();
     slots.iter().all(|slot| all_within(slot)) && all_within(rest)
 }
