@@ -26,7 +26,8 @@ pub fn run(rt: &HostRuntime) -> io::Result<()> {
     Ok(())
 }
 
-/// The same between any input and output, as its last frame left it.
+/// A whole session between any input and output, for at most those eight groups, as its last frame
+/// left it.
 fn account_session<R: Read + Drop, W: Write + Drop>(
     heap: Global,
     input: R,
